@@ -1,0 +1,5 @@
+-- The meaning of instruction words.
+pub mod Opcodes
+pub mod Word
+pub mod Decode
+pub mod Encode
