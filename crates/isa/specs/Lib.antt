@@ -1,4 +1,5 @@
 -- The meaning of instruction words.
+pub mod Tests
 pub mod Opcodes
 pub mod Word
 pub mod Decode
