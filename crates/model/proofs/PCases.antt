@@ -18,7 +18,7 @@ use Rattle.model.specs.Run.{runVerdict, runEffect}
 use Rattle.model.specs.Yield.{yielded, yieldEffect}
 use Rattle.model.specs.Poll.{pollVerdict, polled, pollEffect}
 use Rattle.model.specs.Wait.{waitVerdict, waited, waitEffect}
-use Rattle.model.specs.Send.{sendTo, sendLength, sendVerdict, notified, delivered, copied, sendEffect}
+use Rattle.model.specs.Send.{sendTo, sendLength, sendBase, sendVerdict, notified, delivered, copied, sendEffect}
 use Rattle.model.specs.Deeds.{recorded, settled, marked, redealt, retrieved, relinquished, reclaimed}
 use Rattle.model.specs.Sending.{kindNumber, sentKind, sentTo, sentBase, sentPage, sentCount, isFree, lowestFree, granted, isBase, sendingVerdict, sentDeal, sentTransaction, sent, withHandle, sendingEffect}
 use Rattle.model.specs.HandleCall.{foundIn, lookup, inPlace, handleVerdict, applied, ownFound, handleEffect}
@@ -31,7 +31,7 @@ use Rattle.model.specs.Entries.{answerNumber, checkOf, isDone, thenMode,
 use Rattle.model.specs.PCases.{box, owned, ownerless, machine, turn, words, next, send, instruction, seenBy, seen, sameRecords, from1to2, shared, shareRetrieved, reclaimedEarly, reclaimedLate, lendRetrieved, donationRetrieved, retrievedByZero, messageOfLength, PCases}
 
 pub p-cases : PCases
-unfolding _and_ _or_ opcodes opcodeAt fieldsOf both fitsShape legal meaningOf decodeOf agree every some orNext first ascending sets sameVm samePage isPrimary registersAt register written mailboxAt inboxAt isEmpty lengthOf senderOf recordAt transactionAt pageAt countIn countOf isNormal ownRegisters ownMailbox ownInbox argument plus has only with sameSet shares donates sends receives holders mailboxRow freeRow row sameOwner sameRecord keeps isMailbox keeper holds holder dueIn due ifLive eachDeal eachPage ifFull eachMessage ifOwned countsInRange pageCountsInRange lengthsInRange apart mailboxesDiffer mailboxesBelow ownersBelow sendersBelow noOwnSender partiesDiffer partiesBelow pagesAscend pagesBelow pagesNoMailbox noDonationRetrieved noPageTwice recordsDue blankGuest guestsBlank pagesBlank placesBlank sound right rights access baseOf fetched loaded txWords txWord minus topped advanced gets ifAllowed perform execute guestStep need withError answer succeeded told woken isOther runVerdict runEffect yielded yieldEffect pollVerdict polled pollEffect waitVerdict waited waitEffect sendTo sendLength sendVerdict notified delivered copied sendEffect recorded settled marked redealt retrieved relinquished reclaimed kindNumber sentKind sentTo sentBase sentPage sentCount isFree lowestFree granted isBase sendingVerdict sentDeal sentTransaction sent withHandle sendingEffect foundIn lookup inPlace handleVerdict applied ownFound handleEffect retrieveEffect relinquishEffect reclaimEffect notSupported chosen callEffect withOwn hvc fault halt ended stepEffect answerNumber checkOf isDone thenMode actedBy stepOf callOf oneMore steps wentBy runOf waiting messageOf box owned ownerless machine turn words next send instruction seenBy seen sameRecords from1to2 shared shareRetrieved reclaimedEarly reclaimedLate lendRetrieved donationRetrieved retrievedByZero messageOfLength
+unfolding _and_ _or_ opcodes opcodeAt fieldsOf both fitsShape legal meaningOf decodeOf agree every some orNext first ascending sets sameVm samePage isPrimary registersAt register written mailboxAt inboxAt isEmpty lengthOf senderOf recordAt transactionAt pageAt countIn countOf isNormal ownRegisters ownMailbox ownInbox argument plus has only with sameSet shares donates sends receives holders mailboxRow freeRow row sameOwner sameRecord keeps isMailbox keeper holds holder dueIn due ifLive eachDeal eachPage ifFull eachMessage ifOwned countsInRange pageCountsInRange lengthsInRange apart mailboxesDiffer mailboxesBelow ownersBelow sendersBelow noOwnSender partiesDiffer partiesBelow pagesAscend pagesBelow pagesNoMailbox noDonationRetrieved noPageTwice recordsDue blankGuest guestsBlank pagesBlank placesBlank sound right rights access baseOf fetched loaded txWords txWord minus topped advanced gets ifAllowed perform execute guestStep need withError answer succeeded told woken isOther runVerdict runEffect yielded yieldEffect pollVerdict polled pollEffect waitVerdict waited waitEffect sendTo sendLength sendBase sendVerdict notified delivered copied sendEffect recorded settled marked redealt retrieved relinquished reclaimed kindNumber sentKind sentTo sentBase sentPage sentCount isFree lowestFree granted isBase sendingVerdict sentDeal sentTransaction sent withHandle sendingEffect foundIn lookup inPlace handleVerdict applied ownFound handleEffect retrieveEffect relinquishEffect reclaimEffect notSupported chosen callEffect withOwn hvc fault halt ended stepEffect answerNumber checkOf isDone thenMode actedBy stepOf callOf oneMore steps wentBy runOf waiting messageOf box owned ownerless machine turn words next send instruction seenBy seen sameRecords from1to2 shared shareRetrieved reclaimedEarly reclaimedLate lendRetrieved donationRetrieved retrievedByZero messageOfLength
 p-cases =
     record {
       P1 = refl;

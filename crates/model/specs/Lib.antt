@@ -25,4 +25,5 @@ pub mod Reclaim
 pub mod Call
 pub mod Step
 pub mod Entries
+pub mod Laws
 pub mod PCases

@@ -20,6 +20,10 @@ sendTo m = vm (argument m 1)
 unfoldable pub sendLength : Machine → ℕ
 sendLength m = argument m 2
 
+-- where the message goes: the first word of the receiver's RX page
+unfoldable pub sendBase : Machine → ℕ
+sendBase m = baseOf (mailboxAt (m .mailboxes) (sendTo m) .rx)
+
 unfoldable pub sendVerdict : Machine → Verdict
 sendVerdict m =
     need (isOther m (argument m 1)) INVALID
@@ -35,12 +39,7 @@ delivered m = withInboxes m (withInbox (m .inboxes) (sendTo m) (Full (sendLength
 
 -- the first words of TX, over those of the receiver's RX page; the rest stays
 unfoldable pub copied : State → List ℕ
-copied s =
-    paste
-    (s .memory)
-    (baseOf (mailboxAt (s .machine .mailboxes) (sendTo (s .machine)) .rx))
-    (txWords s)
-    (sendLength (s .machine))
+copied s = paste (s .memory) (sendBase (s .machine)) (txWords s) (sendLength (s .machine))
 
 unfoldable pub sendEffect : State → State
 sendEffect s =

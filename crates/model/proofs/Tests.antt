@@ -1,0 +1,261 @@
+-- The laws of the tests and changes over numbers: what each tells where it passes or fails, and how to make it pass.
+use Prim.Native.Nat.{ℕ, zero, suc, _≤_, _<_}
+use mathlib.Core.Path.{_≡_, refl, sym, ap, _∙_}
+use mathlib.Core.Bool.{Bool, true, false, not, cond, true≢false, false≢true}
+use mathlib.Core.List.{List}
+use mathlib.Core.Logic.{_⊎_, inl, inr}
+use native.Mathlib.Nat.{eq-or-lt-of-le, le-of-suc-le-suc}
+use native.Mathlib.Decide.{ℕ-discrete, decLt}
+use native.Mathlib.Omega.{arith}
+use lib.ListN.{length, getD, set, length-set}
+use lib.Seq.{getD-set-same, getD-set-other}
+use lib.Dec.{ltb}
+use borrow.Author.Tests.{ltb-true, ltb-false, lt-ltb}
+use Rattle.isa.specs.Tests.{_and_, _or_}
+use Rattle.model.specs.Tests.{agree, every, some, orNext, first, ascending, sets}
+
+-- A test does not both pass and fail, and fails if it cannot pass.
+
+pub not-both : {a : Bool} → a ≡ true → a ≡ false → ⊥
+not-both p q = true≢false (sym p ∙ q)
+
+pub cannot-pass : {a : Bool} → (a ≡ true → ⊥) → a ≡ false
+cannot-pass {a = true} h = absurd (h refl)
+cannot-pass {a = false} h = refl
+
+-- The negation. `not-true` and `not-false` of the library take it away.
+
+pub false-not : {a : Bool} → a ≡ false → not a ≡ true
+false-not p = ap not p
+
+pub true-not : {a : Bool} → a ≡ true → not a ≡ false
+true-not p = ap not p
+
+-- Both.
+
+pub and-left : (a b : Bool) → a and b ≡ true → a ≡ true
+unfolding _and_
+and-left true b e = refl
+and-left false b e = e
+
+pub and-right : (a b : Bool) → a and b ≡ true → b ≡ true
+unfolding _and_
+and-right true b e = e
+and-right false b e = absurd (false≢true e)
+
+pub and-intro : {a b : Bool} → a ≡ true → b ≡ true → a and b ≡ true
+unfolding _and_
+and-intro {a = true} p q = q
+and-intro {a = false} p q = p
+
+pub and-false-right : (a b : Bool) → a and b ≡ false → a ≡ true → b ≡ false
+unfolding _and_
+and-false-right true b e p = e
+and-false-right false b e p = absurd (false≢true p)
+
+pub and-false : (a b : Bool) → (a ≡ true → b ≡ false) → a and b ≡ false
+unfolding _and_
+and-false true b h = h refl
+and-false false b h = refl
+
+-- Either.
+
+pub or-else : (a b : Bool) → a or b ≡ true → a ≡ false → b ≡ true
+unfolding _or_
+or-else true b e p = absurd (true≢false p)
+or-else false b e p = e
+
+pub or-left : {a : Bool} (b : Bool) → a ≡ true → a or b ≡ true
+unfolding _or_
+or-left {a = true} b p = refl
+or-left {a = false} b p = absurd (false≢true p)
+
+pub or-right : (a : Bool) {b : Bool} → b ≡ true → a or b ≡ true
+unfolding _or_
+or-right true q = refl
+or-right false q = q
+
+pub or-false-left : (a b : Bool) → a or b ≡ false → a ≡ false
+unfolding _or_
+or-false-left true b e = e
+or-false-left false b e = refl
+
+pub or-false-right : (a b : Bool) → a or b ≡ false → b ≡ false
+unfolding _or_
+or-false-right true b e = absurd (true≢false e)
+or-false-right false b e = e
+
+pub or-false : {a b : Bool} → a ≡ false → b ≡ false → a or b ≡ false
+unfolding _or_
+or-false {a = true} p q = p
+or-false {a = false} p q = q
+
+-- Agreement.
+
+pub agree-true : (a b : Bool) → agree a b ≡ true → a ≡ b
+unfolding agree
+agree-true true b e = sym e
+agree-true false true e = e
+agree-true false false e = refl
+
+pub eq-agree : {a b : Bool} → a ≡ b → agree a b ≡ true
+unfolding agree
+eq-agree {a = true} {b} p = sym p
+eq-agree {a = false} {b = true} p = p
+eq-agree {a = false} {b = false} p = refl
+
+-- Every number below n.
+
+-- a number below the next of n is below n or is n
+below-suc : {k n : ℕ} → k < suc n → (k ≡ n) ⊎ (k < n)
+below-suc h = eq-or-lt-of-le (le-of-suc-le-suc h)
+
+pub every-at : (n : ℕ) (f : ℕ → Bool) → every n f ≡ true → (k : ℕ) → k < n → f k ≡ true
+unfolding every
+every-at zero f e k h = absurd (omega arith)
+every-at (suc n) f e k h =
+    elim (below-suc h) [ inl q ↦ rw q (and-right _ _ e) | inr l ↦ every-at n f (and-left _ _ e) k l ]
+
+pub at-every : (n : ℕ) (f : ℕ → Bool) → ((k : ℕ) → k < n → f k ≡ true) → every n f ≡ true
+unfolding every
+at-every zero f h = refl
+at-every (suc n) f h = and-intro (at-every n f (λ k l. h k (omega arith))) (h n (omega arith))
+
+-- Some number below n.
+
+pub at-some : (n : ℕ) (f : ℕ → Bool) (k : ℕ) → k < n → f k ≡ true → some n f ≡ true
+unfolding some
+at-some zero f k h p = absurd (omega arith)
+at-some (suc n) f k h p =
+    elim (below-suc h) [ inl q ↦ or-right _ (rw q at p) | inr l ↦ or-left _ (at-some n f k l p) ]
+
+pub some-at : (n : ℕ) (f : ℕ → Bool) → some n f ≡ true → (k : ℕ) × (k < n) × (f k ≡ true)
+unfolding some
+some-at zero f e = absurd (false≢true e)
+some-at (suc n) f e = go (some-at n f) (some n f) refl
+  where
+    go : (some n f ≡ true → (k : ℕ) × (k < n) × (f k ≡ true)) → (a : Bool) → some n f ≡ a → (k : ℕ) × (k < suc n) × (f k ≡ true)
+    go lower true q = let found = lower q in (found .0, omega (arith, found .1), found .2)
+    go lower false q = (n, omega arith, or-else _ _ e q)
+
+pub some-none : (n : ℕ) (f : ℕ → Bool) → some n f ≡ false → (k : ℕ) → k < n → f k ≡ false
+some-none n f e k h = cannot-pass (λ p. not-both (at-some n f k h p) e)
+
+pub none-some : (n : ℕ) (f : ℕ → Bool) → ((k : ℕ) → k < n → f k ≡ false) → some n f ≡ false
+none-some n f h = cannot-pass (λ e. let found = some-at n f e in not-both (found .2) (h (found .0) (found .1)))
+
+-- The first number below n.
+
+-- r is what `first n f` has to be
+record IsFirst (n : ℕ) (f : ℕ → Bool) (r : ℕ) : Type 0 where
+  within : r ≤ n
+  passes : r < n → f r ≡ true
+  before : (k : ℕ) → k < r → f k ≡ false
+
+first-next : (n : ℕ) (f : ℕ → Bool) (r : ℕ) → IsFirst n f r → IsFirst (suc n) f (orNext r n (f n))
+unfolding orNext
+first-next n f r c = go (ltb r n) (f n) refl refl
+  where
+    go : (found here : Bool) → ltb r n ≡ found → f n ≡ here → IsFirst (suc n) f (cond found r (cond here n (suc n)))
+    go true here p q =
+        record { within = omega (arith, c .within); passes = λ h. c .passes (ltb-true r n p); before = c .before }
+    go false true p q =
+        record { within = omega arith; passes = λ h. q; before = λ k h. c .before k (omega (arith, ltb-false r n p)) }
+    go false false p q =
+        record
+        { within = omega arith
+        ; passes = λ h. absurd (omega arith)
+        ; before = λ k h. elim (below-suc h) [ inl e ↦ rw e q | inr l ↦ c .before k (omega (arith, ltb-false r n p)) ] }
+
+is-first : (n : ℕ) (f : ℕ → Bool) → IsFirst n f (first n f)
+unfolding first
+is-first zero f =
+    record { within = omega arith; passes = λ h. absurd (omega arith); before = λ k h. absurd (omega arith) }
+is-first (suc n) f = first-next n f (first n f) (is-first n f)
+
+pub first-le : (n : ℕ) (f : ℕ → Bool) → first n f ≤ n
+first-le n f = is-first n f .within
+
+pub first-passes : (n : ℕ) (f : ℕ → Bool) → first n f < n → f (first n f) ≡ true
+first-passes n f = is-first n f .passes
+
+pub before-first : (n : ℕ) (f : ℕ → Bool) (k : ℕ) → k < first n f → f k ≡ false
+before-first n f = is-first n f .before
+
+-- there is a first one, at or before any that passes
+pub passes-first : (n : ℕ) (f : ℕ → Bool) (k : ℕ) → f k ≡ true → first n f ≤ k
+passes-first n f k p = elim (decLt k (first n f)) [ yes l ↦ absurd (not-both p (before-first n f k l)) | no l ↦ omega arith ]
+
+pub some-first : (n : ℕ) (f : ℕ → Bool) → some n f ≡ true → first n f < n
+some-first n f e =
+    let found = some-at n f e in omega (arith, found .1, passes-first n f (found .0) (found .2))
+
+pub first-is : (n : ℕ) (f : ℕ → Bool) (k : ℕ) → k < n → f k ≡ true → ((j : ℕ) → j < k → f j ≡ false) → first n f ≡ k
+first-is n f k h p b =
+    let upper : first n f ≤ k = passes-first n f k p in
+    elim (decLt (first n f) k)
+    [ yes l ↦ absurd (not-both (first-passes n f (omega arith)) (b (first n f) l))
+    | no l ↦ omega arith ]
+
+-- Ascending numbers.
+
+pub ascending-at : (n : ℕ) (f : ℕ → ℕ) → ascending n f ≡ true → (i : ℕ) → suc i < n → f i < f (suc i)
+unfolding ascending
+ascending-at n f e i h = ltb-true _ _ (every-at _ _ e i (omega arith))
+
+pub at-ascending : (n : ℕ) (f : ℕ → ℕ) → ((i : ℕ) → suc i < n → f i < f (suc i)) → ascending n f ≡ true
+unfolding ascending
+at-ascending n f h = at-every _ _ (λ i l. lt-ltb _ _ (h i (omega arith)))
+
+pub ascending-lt : (n : ℕ) (f : ℕ → ℕ) → ascending n f ≡ true → (i j : ℕ) → i < j → j < n → f i < f j
+ascending-lt n f e i zero l h = absurd (omega arith)
+ascending-lt n f e i (suc j) l h =
+    let step : f j < f (suc j) = ascending-at n f e j h in
+    elim (below-suc l)
+    [ inl q ↦ rw q step
+    | inr lower ↦ omega (arith, ascending-lt n f e i j lower (omega arith)) ]
+
+-- Values set at n places.
+
+pub length-sets : {A : Type 0} (n : ℕ) (place : ℕ → ℕ) (value : ℕ → A) (l : List A) → length (sets n place value l) ≡ length l
+unfolding sets
+length-sets zero place value l = refl
+length-sets (suc n) place value l = length-set (sets n place value l) _ _ ∙ length-sets n place value l
+
+-- at none of the places
+pub sets-other : {A : Type 0} (n : ℕ) (place : ℕ → ℕ) (value : ℕ → A) (l : List A) (k : ℕ) (d : A)
+    → ((i : ℕ) → i < n → place i ≡ k → ⊥) → getD (sets n place value l) k d ≡ getD l k d
+unfolding sets
+sets-other zero place value l k d h = refl
+sets-other (suc n) place value l k d h =
+    getD-set-other (sets n place value l) (place n) k (value n) d (λ q. h n (omega arith) (sym q))
+    ∙ sets-other n place value l k d (λ i b. h i (omega arith))
+
+-- at the place k, where every value that is set there is v
+pub sets-at : {A : Type 0} (n : ℕ) (place : ℕ → ℕ) (value : ℕ → A) (l : List A) (k : ℕ) (d v : A)
+    → ((i : ℕ) → i < n → place i ≡ k → value i ≡ v)
+    → (i : ℕ) → i < n → place i ≡ k → k < length l
+    → getD (sets n place value l) k d ≡ v
+unfolding sets
+sets-at zero place value l k d v h i b p fits = absurd (omega arith)
+sets-at (suc n) place value l k d v h i b p fits =
+    elim (ℕ-discrete (place n) k)
+    [ yes q ↦
+        rw (← q) (getD-set-same (sets n place value l) (place n) (value n) d (omega (arith, length-sets n place value l)))
+        ∙ h n (omega arith) q
+    | no q ↦
+        getD-set-other (sets n place value l) (place n) k (value n) d (λ e. q (sym e))
+        ∙ elim (below-suc b)
+        [ inl e ↦ absurd (q (rw (← e) p))
+        | inr lower ↦ sets-at n place value l k d v (λ j c. h j (omega arith)) i lower p fits ] ]
+
+-- at one of the places, where all the values are v
+pub sets-same : {A : Type 0} (n : ℕ) (place : ℕ → ℕ) (v : A) (l : List A) (k : ℕ) (d : A)
+    → (i : ℕ) → i < n → place i ≡ k → k < length l
+    → getD (sets n place (λ j. v) l) k d ≡ v
+sets-same n place v l k d = sets-at n place (λ j. v) l k d v (λ j b p. refl)
+
+-- in the first n places, in order
+pub sets-in-order : {A : Type 0} (n : ℕ) (value : ℕ → A) (l : List A) (i : ℕ) (d : A)
+    → i < n → i < length l → getD (sets n (λ j. j) value l) i d ≡ value i
+sets-in-order n value l i d b fits = sets-at n (λ j. j) value l i d (value i) (λ j c p. ap value p) i b refl fits
