@@ -1,23 +1,32 @@
 -- The laws of `specs/Laws.antt`.
-use Prim.Native.Nat.{ℕ, _%_, _<_}
-use mathlib.Core.Path.{_≡_, refl, sym, ap, _∙_}
-use mathlib.Core.Bool.{Bool, true, false, false≢true}
-use native.Mathlib.Omega.{arith}
+use Prim.Native.Nat.{ℕ, _+_, _*_, _%_, _≤_, _<_}
+use mathlib.Core.Path.{_≡_, refl, ap, _∙_}
+use mathlib.Core.Bool.{Bool, true, false, cond, false≢true}
 use mathlib.Core.List.{List}
-use lib.ListN.{length, length-set}
-use borrow.Author.Tests.{le-ltb, ltb-true, eqb-true}
+use native.Mathlib.Omega.{arith}
+use lib.ListN.{length, getD, length-set, length-drop}
+use lib.Seq.{paste}
+use lib.Dec.{eqb}
+use borrow.Author.Tests.{le-ltb, ltb-true, leb-true, eqb-true}
 use Rattle.model.specs.declared.Kind.{Kind}
 use Rattle.model.specs.declared.Transaction.{Transaction}
-use Rattle.model.specs.Constants.{SUCCESS}
-use Rattle.model.specs.State.{State, state, handle, transactionAt, registersAt, register, withRegister, written}
-use Rattle.model.specs.Reply.{Verdict, passes, refused, need, answer, succeeded}
+use Rattle.model.specs.declared.Machine.{Machine}
+use Rattle.model.specs.declared.Answer.the-variants.{Done, WrongMemory, Unsound}
+use Rattle.model.specs.Constants.{PAGE, SUCCESS}
+use Rattle.model.specs.State.{State, state, vm, handle, transactionAt, registersAt, register, withRegister, written, mailboxAt, ownMailbox, argument}
+use Rattle.model.specs.Sound.{sound, Sound}
+use Rattle.model.specs.Memory.{baseOf, txWords, txWord}
+use Rattle.model.specs.Reply.{Verdict, passes, refused, need, answer, succeeded, isOther}
+use Rattle.model.specs.Send.{sendVerdict, sendEffect, sendTo, sendBase, sendLength, copied}
 use Rattle.model.specs.Deeds.{settled}
-use Rattle.model.specs.Sending.{isFree, lowestFree, granted, sendingVerdict, sendingEffect, sent, withHandle, isBase, sentBase, sentPage, sentCount}
+use Rattle.model.specs.Sending.{isFree, lowestFree, granted, sendingVerdict, sendingEffect, sent, withHandle, isBase, sentBase, sentPage}
 use Rattle.model.specs.HandleCall.{lookup}
-use Rattle.model.specs.Shaped.{Shaped}
-use Rattle.model.specs.Laws.{NothingAboveLast, SentPagesAscend, TakesLowestFree, LowestFreeIsTaken}
-use Rattle.model.proofs.Tests.{and-left, every-at, ascending-lt, first-passes, before-first}
+use Rattle.model.specs.Entries.{isDone, checkOf}
+use Rattle.model.specs.Laws.{NothingAboveLast, SentPagesAscend, LowestFreeIsTaken, SendCopiesItsLength}
+use Rattle.model.proofs.Tests.{and-left, and-right, every-at, ascending-lt, first-passes, before-first}
 use Rattle.model.proofs.State.{register-same, length-written, written-same, transaction-same, transaction-other}
+use Rattle.model.proofs.Paste.{paste-front, paste-inside, paste-behind}
+use Rattle.model.proofs.Sound.{sound-holds}
 
 -- A chain of tests.
 
@@ -93,20 +102,71 @@ lowest-free-is-taken kind s shaped low e =
     let below : h .0 < 16 = handle-granted kind s e in
     let done = sending-done kind s e in
     let r2-fits : 2 < length (registersAt files g .r) = omega (arith, shaped .eight-registers (g .0) low) in
-    record
-    { is-handle = omega arith
-    ; was-free = free-at-lowest (s .machine .transactions) below
-    ; lower-are-live = live-below-lowest (s .machine .transactions)
-    ; is-taken =
-        ap (λ (t : State). transactionAt (t .machine .transactions) h) done
-        ∙ transaction-same (s .machine .transactions) h _ (omega (arith, shaped .sixteen-transactions))
-    ; others-stay = λ k other.
-        ap (λ (t : State). transactionAt (t .machine .transactions) (handle k)) done
-        ∙ transaction-other (s .machine .transactions) h (handle k) _ other
-    ; is-in-r2 =
-        ap (λ (t : State). register (registersAt (t .machine .registers) g) 2) done
-        ∙ rw
-        (written-same (written files g 0 SUCCESS) g 2 (h .0) (omega (arith, shaped .eight-files, length-written files g 0 SUCCESS))
-        , written-same files g 0 SUCCESS (omega (arith, shaped .eight-files)))
-        (register-same (withRegister (registersAt files g) 0 SUCCESS) 2 (h .0) (simp length-set r2-fits))
+    record {
+      is-handle = omega arith;
+      was-free = free-at-lowest (s .machine .transactions) below;
+      lower-are-live = live-below-lowest (s .machine .transactions);
+      is-taken =
+          ap (λ (t : State). transactionAt (t .machine .transactions) h) done
+          ∙ transaction-same (s .machine .transactions) h _ (omega (arith, shaped .sixteen-transactions));
+      others-stay = λ k other.
+          ap (λ (t : State). transactionAt (t .machine .transactions) (handle k)) done
+          ∙ transaction-other (s .machine .transactions) h (handle k) _ other;
+      is-in-r2 =
+          ap (λ (t : State). register (registersAt (t .machine .registers) g) 2) done
+          ∙ rw (
+            written-same (written files g 0 SUCCESS) g 2 (h .0) (omega (arith, shaped .eight-files, length-written files g 0 SUCCESS)),
+            written-same files g 0 SUCCESS (omega (arith, shaped .eight-files)),
+          )
+          (register-same (withRegister (registersAt files g) 0 SUCCESS) 2 (h .0) (simp length-set r2-fits));
+    }
+
+-- What the check says where it answers 0.
+
+done-parts : (right accepted : Bool) → isDone (cond right (cond accepted Done Unsound) WrongMemory) ≡ true
+    → (right ≡ true) × (accepted ≡ true)
+unfolding isDone
+done-parts true true e = (refl, refl)
+done-parts true false e = absurd (false≢true e)
+done-parts false accepted e = absurd (false≢true e)
+
+pub done-memory : (m : Machine) (memory : List ℕ) → checkOf m memory ≡ Done → length memory ≡ PAGE * m .m
+unfolding checkOf isDone
+done-memory m memory e = eqb-true _ _ (done-parts (eqb (length memory) (PAGE * m .m)) (sound m) (ap isDone e) .0)
+
+pub done-sound : (m : Machine) (memory : List ℕ) → checkOf m memory ≡ Done → Sound m
+unfolding checkOf isDone
+done-sound m memory e = sound-holds m (done-parts (eqb (length memory) (PAGE * m .m)) (sound m) (ap isDone e) .1)
+
+-- Send.
+
+-- the receiver's RX page is inside memory, and the caller's TX page has enough words
+send-fits : (s : State) → checkOf (s .machine) (s .memory) ≡ Done → sendVerdict (s .machine) ≡ passes
+    → (sendBase (s .machine) + sendLength (s .machine) ≤ length (s .memory)) × (sendLength (s .machine) ≤ length (txWords s))
+unfolding sendVerdict sendBase sendTo isOther baseOf txWords ownMailbox
+send-fits s ok e =
+    let m = s .machine in
+    let all : length (s .memory) ≡ 1024 * m .m = done-memory m (s .memory) ok in
+    let kept = done-sound m (s .memory) ok in
+    let other : argument m 1 < m .n = ltb-true _ _ (and-left _ _ (need-test _ _ _ e)) in
+    let small : sendLength m ≤ 1024 = leb-true _ _ (and-right _ _ (need-test _ _ _ (need-rest _ _ _ e))) in
+    let rx : mailboxAt (m .mailboxes) (vm (argument m 1)) .rx .0 < m .m = kept .mailboxes-below (argument m 1) other .1 in
+    let tx : mailboxAt (m .mailboxes) (m .current) .tx .0 < m .m = kept .mailboxes-below (m .current .0) (kept .current-below) .0 in
+    (omega arith, simp length-drop (omega arith))
+
+send-memory : (s : State) → sendVerdict (s .machine) ≡ passes
+    → sendEffect s .memory ≡ paste (s .memory) (sendBase (s .machine)) (txWords s) (sendLength (s .machine))
+unfolding sendEffect copied
+send-memory s e = ap (λ (t : State). t .memory) (answer-passes s _ e)
+
+pub send-copies-its-length : SendCopiesItsLength
+unfolding txWord
+send-copies-its-length s ok e =
+    let fits = send-fits s ok e in
+    let at : (x : ℕ) → getD (sendEffect s .memory) x 0 ≡ getD (paste (s .memory) (sendBase (s .machine)) (txWords s) (sendLength (s .machine))) x 0 =
+    λ x. ap (λ (l : List ℕ). getD l x 0) (send-memory s e) in
+    record {
+      is-copied = λ i h. at _ ∙ paste-inside (s .memory) _ (txWords s) _ (fits .0) (fits .1) 0 i h;
+      rest-stays = λ x h. at x ∙ paste-behind (s .memory) _ (txWords s) _ (fits .0) (fits .1) 0 x h;
+      front-stays = λ x h. at x ∙ paste-front (s .memory) _ (txWords s) _ (fits .0) (fits .1) 0 x h;
     }

@@ -2,5 +2,9 @@
 pub mod Tests
 pub mod Same
 pub mod State
+pub mod Members
+pub mod Table
+pub mod Paste
+pub mod Sound
 pub mod Laws
 pub mod PCases

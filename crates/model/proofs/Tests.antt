@@ -7,7 +7,7 @@ use mathlib.Core.Logic.{_⊎_, inl, inr}
 use native.Mathlib.Nat.{eq-or-lt-of-le, le-of-suc-le-suc}
 use native.Mathlib.Decide.{ℕ-discrete, decLt}
 use native.Mathlib.Omega.{arith}
-use lib.ListN.{length, getD, set, length-set}
+use lib.ListN.{length, getD, length-set}
 use lib.Seq.{getD-set-same, getD-set-other}
 use lib.Dec.{ltb}
 use borrow.Author.Tests.{ltb-true, ltb-false, lt-ltb}
@@ -23,7 +23,7 @@ pub cannot-pass : {a : Bool} → (a ≡ true → ⊥) → a ≡ false
 cannot-pass {a = true} h = absurd (h refl)
 cannot-pass {a = false} h = refl
 
--- The negation. `not-true` and `not-false` of the library take it away.
+-- The negation. The way back is `not-true` and `not-false` of `borrow.Author.Tests`.
 
 pub false-not : {a : Bool} → a ≡ false → not a ≡ true
 false-not p = ap not p
@@ -65,6 +65,11 @@ unfolding _or_
 or-else true b e p = absurd (true≢false p)
 or-else false b e p = e
 
+pub or-either : (a b : Bool) → a or b ≡ true → (a ≡ true) ⊎ (b ≡ true)
+unfolding _or_
+or-either true b e = inl refl
+or-either false b e = inr e
+
 pub or-left : {a : Bool} (b : Bool) → a ≡ true → a or b ≡ true
 unfolding _or_
 or-left {a = true} b p = refl
@@ -89,6 +94,11 @@ pub or-false : {a b : Bool} → a ≡ false → b ≡ false → a or b ≡ false
 unfolding _or_
 or-false {a = true} p q = p
 or-false {a = false} p q = q
+
+pub or-nothing : (a : Bool) → a or false ≡ a
+unfolding _or_
+or-nothing true = refl
+or-nothing false = refl
 
 -- Agreement.
 
@@ -134,7 +144,8 @@ unfolding some
 some-at zero f e = absurd (false≢true e)
 some-at (suc n) f e = go (some-at n f) (some n f) refl
   where
-    go : (some n f ≡ true → (k : ℕ) × (k < n) × (f k ≡ true)) → (a : Bool) → some n f ≡ a → (k : ℕ) × (k < suc n) × (f k ≡ true)
+    go : (some n f ≡ true → (k : ℕ) × (k < n) × (f k ≡ true)) → (a : Bool) → some n f ≡ a
+        → (k : ℕ) × (k < suc n) × (f k ≡ true)
     go lower true q = let found = lower q in (found .0, omega (arith, found .1), found .2)
     go lower false q = (n, omega arith, or-else _ _ e q)
 
@@ -142,7 +153,9 @@ pub some-none : (n : ℕ) (f : ℕ → Bool) → some n f ≡ false → (k : ℕ
 some-none n f e k h = cannot-pass (λ p. not-both (at-some n f k h p) e)
 
 pub none-some : (n : ℕ) (f : ℕ → Bool) → ((k : ℕ) → k < n → f k ≡ false) → some n f ≡ false
-none-some n f h = cannot-pass (λ e. let found = some-at n f e in not-both (found .2) (h (found .0) (found .1)))
+unfolding some
+none-some zero f h = refl
+none-some (suc n) f h = or-false (none-some n f (λ k l. h k (omega arith))) (h n (omega arith))
 
 -- The first number below n.
 
@@ -162,10 +175,11 @@ first-next n f r c = go (ltb r n) (f n) refl refl
     go false true p q =
         record { within = omega arith; passes = λ h. q; before = λ k h. c .before k (omega (arith, ltb-false r n p)) }
     go false false p q =
-        record
-        { within = omega arith
-        ; passes = λ h. absurd (omega arith)
-        ; before = λ k h. elim (below-suc h) [ inl e ↦ rw e q | inr l ↦ c .before k (omega (arith, ltb-false r n p)) ] }
+        record {
+          within = omega arith;
+          passes = λ h. absurd (omega arith);
+          before = λ k h. elim (below-suc h) [ inl e ↦ rw e q | inr l ↦ c .before k (omega (arith, ltb-false r n p)) ];
+        }
 
 is-first : (n : ℕ) (f : ℕ → Bool) → IsFirst n f (first n f)
 unfolding first
@@ -182,7 +196,7 @@ first-passes n f = is-first n f .passes
 pub before-first : (n : ℕ) (f : ℕ → Bool) (k : ℕ) → k < first n f → f k ≡ false
 before-first n f = is-first n f .before
 
--- there is a first one, at or before any that passes
+-- no number that passes is before the first
 pub passes-first : (n : ℕ) (f : ℕ → Bool) (k : ℕ) → f k ≡ true → first n f ≤ k
 passes-first n f k p = elim (decLt k (first n f)) [ yes l ↦ absurd (not-both p (before-first n f k l)) | no l ↦ omega arith ]
 
@@ -193,9 +207,10 @@ some-first n f e =
 pub first-is : (n : ℕ) (f : ℕ → Bool) (k : ℕ) → k < n → f k ≡ true → ((j : ℕ) → j < k → f j ≡ false) → first n f ≡ k
 first-is n f k h p b =
     let upper : first n f ≤ k = passes-first n f k p in
-    elim (decLt (first n f) k)
-    [ yes l ↦ absurd (not-both (first-passes n f (omega arith)) (b (first n f) l))
-    | no l ↦ omega arith ]
+    elim (decLt (first n f) k) [
+      | yes l ↦ absurd (not-both (first-passes n f (omega arith)) (b (first n f) l))
+      | no l ↦ omega arith
+    ]
 
 -- Ascending numbers.
 
@@ -211,9 +226,10 @@ pub ascending-lt : (n : ℕ) (f : ℕ → ℕ) → ascending n f ≡ true → (i
 ascending-lt n f e i zero l h = absurd (omega arith)
 ascending-lt n f e i (suc j) l h =
     let step : f j < f (suc j) = ascending-at n f e j h in
-    elim (below-suc l)
-    [ inl q ↦ rw q step
-    | inr lower ↦ omega (arith, ascending-lt n f e i j lower (omega arith)) ]
+    elim (below-suc l) [
+      | inl q ↦ rw q step
+      | inr lower ↦ omega (arith, ascending-lt n f e i j lower (omega arith))
+    ]
 
 -- Values set at n places.
 
@@ -239,15 +255,17 @@ pub sets-at : {A : Type 0} (n : ℕ) (place : ℕ → ℕ) (value : ℕ → A) (
 unfolding sets
 sets-at zero place value l k d v h i b p fits = absurd (omega arith)
 sets-at (suc n) place value l k d v h i b p fits =
-    elim (ℕ-discrete (place n) k)
-    [ yes q ↦
-        rw (← q) (getD-set-same (sets n place value l) (place n) (value n) d (omega (arith, length-sets n place value l)))
-        ∙ h n (omega arith) q
-    | no q ↦
-        getD-set-other (sets n place value l) (place n) k (value n) d (λ e. q (sym e))
-        ∙ elim (below-suc b)
-        [ inl e ↦ absurd (q (rw (← e) p))
-        | inr lower ↦ sets-at n place value l k d v (λ j c. h j (omega arith)) i lower p fits ] ]
+    elim (ℕ-discrete (place n) k) [
+      | yes q ↦
+          rw (← q) (getD-set-same (sets n place value l) (place n) (value n) d (omega (arith, length-sets n place value l)))
+          ∙ h n (omega arith) q
+      | no q ↦
+          getD-set-other (sets n place value l) (place n) k (value n) d (λ e. q (sym e))
+          ∙ elim (below-suc b) [
+            | inl e ↦ absurd (q (rw (← e) p))
+            | inr lower ↦ sets-at n place value l k d v (λ j c. h j (omega arith)) i lower p fits
+          ]
+    ]
 
 -- at one of the places, where all the values are v
 pub sets-same : {A : Type 0} (n : ℕ) (place : ℕ → ℕ) (v : A) (l : List A) (k : ℕ) (d : A)

@@ -5,6 +5,7 @@ pub mod State
 pub mod Shaped
 pub mod VmSet
 pub mod Row
+pub mod Table
 pub mod Due
 pub mod Sound
 pub mod Rights
