@@ -1,18 +1,18 @@
 -- The laws of `specs/Laws.antt`.
 use Prim.Native.Nat.{ℕ, _+_, _*_, _%_, _≤_, _<_}
 use mathlib.Core.Path.{_≡_, refl, ap, _∙_}
-use mathlib.Core.Bool.{Bool, true, false, cond, false≢true}
+use mathlib.Core.Bool.{Bool, true, false, cond, true≢false, false≢true}
 use mathlib.Core.List.{List}
 use native.Mathlib.Omega.{arith}
 use lib.ListN.{length, getD, length-set, length-drop}
 use lib.Seq.{paste}
-use lib.Dec.{eqb}
+use lib.Dec.{ltb, eqb}
 use borrow.Author.Tests.{le-ltb, ltb-true, leb-true, eqb-true}
 use Rattle.model.specs.declared.Kind.{Kind}
 use Rattle.model.specs.declared.Transaction.{Transaction}
 use Rattle.model.specs.declared.Machine.{Machine}
 use Rattle.model.specs.declared.Answer.the-variants.{Done, WrongMemory, Unsound}
-use Rattle.model.specs.Constants.{PAGE, SUCCESS}
+use Rattle.model.specs.Constants.{PAGE, HANDLES, SUCCESS}
 use Rattle.model.specs.State.{State, state, vm, handle, transactionAt, registersAt, register, withRegister, written, mailboxAt, ownMailbox, argument}
 use Rattle.model.specs.Sound.{sound, Sound}
 use Rattle.model.specs.Memory.{baseOf, txWords, txWord}
@@ -52,9 +52,13 @@ answer-passes before done e = rw e
 
 -- Handle words.
 
+cond-false : {A : Type 0} (b : Bool) (x y : A) → b ≡ false → cond b x y ≡ y
+cond-false true x y e = absurd (true≢false e)
+cond-false false x y e = refl
+
 pub nothing-above-last : NothingAboveLast
 unfolding lookup
-nothing-above-last transactions w h = rw (le-ltb w 16 h)
+nothing-above-last transactions w h = cond-false (ltb w HANDLES) _ _ (le-ltb w HANDLES h)
 
 -- Sendings.
 
@@ -154,16 +158,15 @@ send-fits s ok e =
     let tx : mailboxAt (m .mailboxes) (m .current) .tx .0 < m .m = kept .mailboxes-below (m .current .0) (kept .current-below) .0 in
     (omega arith, simp length-drop (omega arith))
 
-send-memory : (s : State) → sendVerdict (s .machine) ≡ passes
-    → sendEffect s .memory ≡ paste (s .memory) (sendBase (s .machine)) (txWords s) (sendLength (s .machine))
-unfolding sendEffect copied
+send-memory : (s : State) → sendVerdict (s .machine) ≡ passes → sendEffect s .memory ≡ copied s
+unfolding sendEffect
 send-memory s e = ap (λ (t : State). t .memory) (answer-passes s _ e)
 
 pub send-copies-its-length : SendCopiesItsLength
-unfolding txWord
+unfolding txWord copied
 send-copies-its-length s ok e =
     let fits = send-fits s ok e in
-    let at : (x : ℕ) → getD (sendEffect s .memory) x 0 ≡ getD (paste (s .memory) (sendBase (s .machine)) (txWords s) (sendLength (s .machine))) x 0 =
+    let at : (x : ℕ) → getD (sendEffect s .memory) x 0 ≡ getD (copied s) x 0 =
     λ x. ap (λ (l : List ℕ). getD l x 0) (send-memory s e) in
     record {
       is-copied = λ i h. at _ ∙ paste-inside (s .memory) _ (txWords s) _ (fits .0) (fits .1) 0 i h;
