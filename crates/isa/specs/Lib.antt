@@ -3,3 +3,4 @@ pub mod Opcodes
 pub mod Word
 pub mod Decode
 pub mod Encode
+pub mod Laws

@@ -8,11 +8,11 @@ use Rattle.isa.specs.declared.Fields.{Fields}
 use Rattle.isa.specs.Opcodes.{opcodeAt}
 
 -- a word cut into its fields
-unfoldable pub fieldsOf : ℕ → Fields
+abbrev pub fieldsOf : ℕ → Fields
 fieldsOf w = record { code = w % 256; d = w / 256 % 16; s = w / 4096 % 16; k = w / 65536 }
 
 -- the word that has these fields
-unfoldable pub wordOf : Fields → ℕ
+abbrev pub wordOf : Fields → ℕ
 wordOf f = f .code + 256 * f .d + 4096 * f .s + 65536 * f .k
 
 unfoldable pub both : Bool → Bool → Bool
