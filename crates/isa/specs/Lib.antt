@@ -4,3 +4,4 @@ pub mod Word
 pub mod Decode
 pub mod Encode
 pub mod Laws
+pub mod Promises
