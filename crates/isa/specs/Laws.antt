@@ -1,29 +1,29 @@
 -- Laws of fields: when they are an instruction's, how large they are then, and that the list of instructions and the
 -- fields of a meaning agree.
 use Prim.Native.Nat.{ℕ, zero, suc, _+_, _^_, _<_, _≤_}
-use mathlib.Core.Path.{_≡_, refl, sym, ap, _∙_}
+use mathlib.Core.Path.{_≡_, refl, _∙_}
 use mathlib.Core.Bool.{Bool, true, false}
 use mathlib.Core.List.{List, [], _∷_, map}
 use native.Mathlib.Omega.{arith}
 use lib.Dec.{leb}
 use lib.ListN.{getD, List·getD-eq-default}
 use borrow.Author.Tests.{ltb-true, eqb-true, leb-true, leb-false}
-use Rattle.isa.specs.declared.Instruction.{Instruction}
 use Rattle.isa.specs.declared.Instruction.the-variants.{Halt}
 use Rattle.isa.specs.declared.Shape.{Shape}
 use Rattle.isa.specs.declared.Shape.the-variants.{None, DK, DS, S, Bare}
 use Rattle.isa.specs.declared.Fields.{Fields}
 use Rattle.isa.specs.declared.Opcode.{Opcode}
 use Rattle.isa.specs.Opcodes.{opcode, opcodes, opcodeAt}
-use Rattle.isa.specs.Word.{fieldsOf, wordOf, both, fitsShape, legal}
+use Rattle.isa.specs.Word.{fieldsOf, wordOf, both, fitsShape, legal, Bounded}
 use Rattle.isa.specs.Encode.{fields, partsOf}
 
 ruleset tests = (arith, ltb-true, eqb-true)
 
-pub same-fields : (f g : Fields) → f .code ≡ g .code → f .d ≡ g .d → f .s ≡ g .s → f .k ≡ g .k → f ≡ g
+same-fields :
+    (f g : Fields) → f .code ≡ g .code → f .d ≡ g .d → f .s ≡ g .s → f .k ≡ g .k → f ≡ g
 same-fields f g c d s k = λ i. record { code = c i; d = d i; s = s i; k = k i }
 
--- code 0 and the codes behind the list
+-- the row of code 0 and of the codes behind the list
 pub no-opcode : (f : Fields) → (f .code ≤ 13 → f .code ≡ 0) → opcodeAt f ≡ opcode None Halt
 unfolding opcodeAt opcodes
 no-opcode f h = go (leb (f .code) 13) refl
@@ -42,7 +42,7 @@ both-true true b e = (refl, e)
 both-true false b e = (e, cc)
 
 -- the fields with zero where the shape has none. `None` is the shape of the row that stands for no instruction.
-unfoldable kept : Shape → Fields → Fields
+kept : Shape → Fields → Fields
 kept None f = partsOf Halt
 kept DK f = fields (f .code) (f .d) 0 (f .k)
 kept DS f = fields (f .code) (f .d) (f .s) 0
@@ -50,7 +50,10 @@ kept S f = fields (f .code) 0 (f .s) 0
 kept Bare f = fields (f .code) 0 0 0
 
 -- what a passed test of the shape says
-fits : (shape : Shape) (f : Fields) → fitsShape shape f ≡ true → (f .d < 8) × (f .s < 8) × (kept shape f ≡ f)
+fits :
+    (shape : Shape) (f : Fields) →
+    fitsShape shape f ≡ true →
+    (f .d < 8) × (f .s < 8) × (kept shape f ≡ f)
 unfolding fitsShape kept
 fits None f e = let z : _≡_ {A = ℕ} 0 1 = cc in absurd (omega arith)
 fits DK f e =
@@ -68,13 +71,6 @@ fits Bare f e =
     let h = both-true _ _ e in
     let g = both-true _ _ (h .1) in
     (omega tests, omega tests, same-fields _ f refl (omega tests) (omega tests) (omega tests))
-
--- how large the fields of an instruction can be
-pub record Bounded (f : Fields) : Type 0 where
-  pub code : f .code ≤ 13
-  pub d : f .d < 8
-  pub s : f .s < 8
-  pub k : f .k < 65536
 
 legal-code : (f : Fields) → fitsShape (opcodeAt f .shape) f ≡ true → f .code ≤ 13
 unfolding fitsShape
@@ -94,11 +90,12 @@ legal-bounded f e =
     let g = fits (opcodeAt f .shape) f (h .1) in
     record { code = legal-code f (h .1); d = g .0; s = g .1; k = ltb-true _ _ (h .0) }
 
--- the fields of each row's instruction, row by row from code n on: those of the code that its shape has
+-- for each row, from code n on, the fields that its shape has
 kepts : ℕ → ℕ → ℕ → ℕ → List Opcode → List Fields
 kepts d s k n [] = []
 kepts d s k n (o ∷ os) = kept (o .shape) (fields n d s k) ∷ kepts d s k (suc n) os
 
+-- where the list agrees with that row by row, each row's instruction has just these fields
 parts-getD :
     (d s k : ℕ) (os : List Opcode) (n : ℕ) →
     map (λ o. partsOf (o .means)) os ≡ kepts d s k n os →
@@ -114,7 +111,8 @@ parts-getD d s k (o ∷ os) n e (suc i) code h = parts-getD d s k os (suc n) (cc
 parts-kept : (f : Fields) → partsOf (opcodeAt f .means) ≡ kept (opcodeAt f .shape) f
 unfolding opcodeAt opcodes kept kepts
 parts-kept f =
-    parts-getD (f .d) (f .s) (f .k) (opcode None Halt ∷ opcodes (f .d) (f .s) (f .k)) 0 refl (f .code) (f .code) (omega arith)
+    let rows = opcode None Halt ∷ opcodes (f .d) (f .s) (f .k) in
+    parts-getD (f .d) (f .s) (f .k) rows 0 refl (f .code) (f .code) (omega arith)
 
 -- the fields of what a legal word means are that word's
 pub parts-means : (f : Fields) → legal f ≡ true → partsOf (opcodeAt f .means) ≡ f

@@ -12,10 +12,10 @@ use Rattle.isa.specs.declared.Decoded.the-variants as decoded
 use Rattle.isa.specs.declared.Encoded.{Encoded}
 use Rattle.isa.specs.declared.Encoded.the-variants as encoded
 use Rattle.isa.specs.Opcodes.{opcodes, opcodeAt}
-use Rattle.isa.specs.Word.{fieldsOf, wordOf, legal}
+use Rattle.isa.specs.Word.{fieldsOf, wordOf, legal, Bounded}
 use Rattle.isa.specs.Decode.{meaningOf, decodeOf, decodeNumber}
 use Rattle.isa.specs.Encode.{partsOf, encodeOf, encodeNumber, encodeWord}
-use Rattle.isa.specs.Laws.{Bounded, legal-bounded, parts-means, fields-word, word-fields, word-bounded}
+use Rattle.isa.specs.Laws.{legal-bounded, parts-means, fields-word, word-fields, word-bounded}
 
 -- each instruction's fields lead to its own row of the list
 pub list-agrees : (i : Instruction) → opcodeAt (partsOf i) .means ≡ i

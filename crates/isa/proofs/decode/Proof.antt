@@ -7,7 +7,12 @@ use Rattle.isa.proofs.decode.Tie as tie
 returns : tie.Need-returns
 unfolding decodeOf meaningOf
 returns c =
-    rw (c .opcode-at .ensures, ← c .before .before .before .fields-of .ensures, ← c .before .before .legal .ensures, c .before .if1 .taken)
+    rw (
+      c .opcode-at .ensures,
+      ← c .before .before .before .fields-of .ensures,
+      ← c .before .before .legal .ensures,
+      c .before .if1 .taken,
+    )
 
 returns-2 : tie.Need-returns-2
 unfolding decodeOf meaningOf

@@ -11,7 +11,12 @@ word-of-requires c κs = sym (c .before .legal .ensures) ∙ c .if1 .taken
 returns : tie.Need-returns
 unfolding encodeOf
 returns c =
-    rw (c .word-of .ensures, ← c .before .before .before .parts-of .ensures, ← c .before .before .legal .ensures, c .before .if1 .taken)
+    rw (
+      c .word-of .ensures,
+      ← c .before .before .before .parts-of .ensures,
+      ← c .before .before .legal .ensures,
+      c .before .if1 .taken,
+    )
 
 returns-2 : tie.Need-returns-2
 unfolding encodeOf
