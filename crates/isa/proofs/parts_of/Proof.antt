@@ -1,6 +1,5 @@
 -- `isa::parts_of` meets its contract: each arm is given which instruction it is.
 -- Assumes nothing.
-use borrow.Author.Needs.{needs}
 use Rattle.isa.proofs.parts_of.Statement.{statement}
 use Rattle.isa.proofs.parts_of.Tie as tie
 
@@ -8,31 +7,31 @@ pub parts-of-spec : {M : Type 1} → statement M
 parts-of-spec =
     tie.close
     (tie.spec
-    (λ c. search needs)
+    (λ c. c .match .keys1)
     (λ c κs. tt)
-    (λ c. search needs)
+    (λ c. c .match .keys2)
     (λ c κs. tt)
-    (λ c. search needs)
+    (λ c. c .match .keys3)
     (λ c κs. tt)
-    (λ c. search needs)
+    (λ c. c .match .keys4)
     (λ c κs. tt)
-    (λ c. search needs)
+    (λ c. c .match .keys5)
     (λ c κs. tt)
-    (λ c. search needs)
+    (λ c. c .match .keys6)
     (λ c κs. tt)
-    (λ c. search needs)
+    (λ c. c .match .keys7)
     (λ c κs. tt)
-    (λ c. search needs)
+    (λ c. c .match .keys8)
     (λ c κs. tt)
-    (λ c. search needs)
+    (λ c. c .match .keys9)
     (λ c κs. tt)
-    (λ c. search needs)
+    (λ c. c .match .keys10)
     (λ c κs. tt)
-    (λ c. search needs)
+    (λ c. c .match .keys11)
     (λ c κs. tt)
-    (λ c. search needs)
+    (λ c. c .match .keys12)
     (λ c κs. tt)
-    (λ c. search needs)
+    (λ c. c .match .keys13)
     (λ c κs. tt)
     (λ c. rw (c .parts .ensures, c .before .before .i .given .1))
     (λ c. rw (c .parts2 .ensures, c .before .before .i2 .given .1))
