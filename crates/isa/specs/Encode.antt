@@ -1,6 +1,6 @@
 -- What `encode` answers for a meaning.
 use Prim.Native.Nat.{ℕ}
-use mathlib.Core.Bool.{Bool, true, false, cond}
+use mathlib.Core.Bool.{cond}
 use Rattle.isa.specs.declared.Instruction.{Instruction}
 use Rattle.isa.specs.declared.Instruction.the-variants.{Movi, Movt, Mov, Ldr, Str, Add, Sub, Addi, Cmp, Bne, Br, Hvc, Halt}
 use Rattle.isa.specs.declared.Fields.{Fields}
@@ -12,7 +12,7 @@ abbrev pub fields : ℕ → ℕ → ℕ → ℕ → Fields
 fields code d s k = record { code = code; d = d; s = s; k = k }
 
 -- the fields of a meaning: its place in the list of instructions, and zero where it has no field
-unfoldable pub partsOf : Instruction → Fields
+abbrev pub partsOf : Instruction → Fields
 partsOf (Movi d k) = fields 1 d 0 k
 partsOf (Movt d k) = fields 2 d 0 k
 partsOf (Mov d s) = fields 3 d s 0

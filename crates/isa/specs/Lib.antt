@@ -4,3 +4,5 @@ pub mod Opcodes
 pub mod Word
 pub mod Decode
 pub mod Encode
+pub mod Laws
+pub mod Promises

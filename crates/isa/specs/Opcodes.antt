@@ -8,12 +8,9 @@ use Rattle.isa.specs.declared.Instruction.the-variants.{Movi, Movt, Mov,
 use Rattle.isa.specs.declared.Shape.{Shape}
 use Rattle.isa.specs.declared.Shape.the-variants.{None, DK, DS, S, Bare}
 use Rattle.isa.specs.declared.Fields.{Fields}
+use Rattle.isa.specs.declared.Opcode.{Opcode}
 
 -- an instruction with the fields that its word has
-pub record Opcode : Type 0 where
-  pub shape : Shape
-  pub means : Instruction
-
 abbrev pub opcode : Shape → Instruction → Opcode
 opcode shape means = record { shape = shape; means = means }
 

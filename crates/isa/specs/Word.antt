@@ -1,5 +1,5 @@
 -- A word and its four fields: bits 0-7 the code, 8-11 d, 12-15 s, 16-31 k.
-use Prim.Native.Nat.{ℕ, _+_, _*_, _/_, _%_}
+use Prim.Native.Nat.{ℕ, _+_, _*_, _/_, _%_, _<_, _≤_}
 use mathlib.Core.Bool.{Bool, true, false}
 use lib.Dec.{ltb, eqb}
 use Rattle.isa.specs.declared.Shape.{Shape}
@@ -8,11 +8,11 @@ use Rattle.isa.specs.declared.Fields.{Fields}
 use Rattle.isa.specs.Opcodes.{opcodeAt}
 
 -- a word cut into its fields
-unfoldable pub fieldsOf : ℕ → Fields
+abbrev pub fieldsOf : ℕ → Fields
 fieldsOf w = record { code = w % 256; d = w / 256 % 16; s = w / 4096 % 16; k = w / 65536 }
 
 -- the word that has these fields
-unfoldable pub wordOf : Fields → ℕ
+abbrev pub wordOf : Fields → ℕ
 wordOf f = f .code + 256 * f .d + 4096 * f .s + 65536 * f .k
 
 unfoldable pub both : Bool → Bool → Bool
@@ -30,3 +30,10 @@ fitsShape Bare f = both (eqb (f .d) 0) (both (eqb (f .s) 0) (eqb (f .k) 0))
 -- the fields are an instruction's
 unfoldable pub legal : Fields → Bool
 legal f = both (ltb (f .k) 65536) (fitsShape (opcodeAt f .shape) f)
+
+-- how large the fields of an instruction can be
+pub record Bounded (f : Fields) : Type 0 where
+  pub code : f .code ≤ 13
+  pub d : f .d < 8
+  pub s : f .s < 8
+  pub k : f .k < 65536

@@ -4,6 +4,13 @@
 // word of a meaning or says that it has none. What they answer is defined in `specs/`, and their contracts are
 // equations with those definitions.
 
+ghost use mathlib.Core.Path.{_≡_};
+ghost use mathlib.Core.Bool.{true};
+ghost use Rattle.isa.specs.Opcodes.{opcode, opcodeAt};
+ghost use Rattle.isa.specs.Word.{fieldsOf, wordOf, fitsShape, legal};
+ghost use Rattle.isa.specs.Decode.{decodeOf};
+ghost use Rattle.isa.specs.Encode.{fields, partsOf, encodeOf};
+
 // What a word tells the machine to do. d and s are register numbers, k a number of 16 bits. The types are wider than
 // the fields: a value that no word can hold is no instruction, and `encode` says so.
 pub enum Instruction {
@@ -39,6 +46,12 @@ pub struct Fields {
     pub k: u32,
 }
 
+// What a code stands for: the fields that its words have, and the instruction.
+pub struct Opcode {
+    pub shape: Shape,
+    pub means: Instruction,
+}
+
 // What `decode` answers.
 pub enum Decoded {
     NotInstruction,
@@ -49,4 +62,138 @@ pub enum Decoded {
 pub enum Encoded {
     NotInstruction,
     Word(u32),
+}
+
+// A word cut into its fields.
+fn fields_of(word: u32) -> Fields
+    ensures { λ r. ⌜ r ≡ fieldsOf word ⌝ }
+{
+    Fields {
+        code: (word % 256) as u8,
+        d: (word / 256 % 16) as u8,
+        s: (word / 4096 % 16) as u8,
+        k: word / 65536,
+    }
+}
+
+// A row of the list of instructions, for `opcode_at`, which has one in each line.
+fn row(shape: Shape, means: Instruction) -> Opcode
+    ensures { λ r. ⌜ r ≡ opcode shape means ⌝ }
+{
+    Opcode {
+        shape: shape,
+        means: means,
+    }
+}
+
+// The row that a word with these fields is an instance of.
+fn opcode_at(f: Fields) -> Opcode
+    ensures { λ r. ⌜ r ≡ opcodeAt f ⌝ }
+{
+    let code = f.code;
+    match code {
+        1 => row(Shape::DK, Instruction::Movi(f.d, f.k)),
+        2 => row(Shape::DK, Instruction::Movt(f.d, f.k)),
+        3 => row(Shape::DS, Instruction::Mov(f.d, f.s)),
+        4 => row(Shape::DS, Instruction::Ldr(f.d, f.s)),
+        5 => row(Shape::DS, Instruction::Str(f.d, f.s)),
+        6 => row(Shape::DS, Instruction::Add(f.d, f.s)),
+        7 => row(Shape::DS, Instruction::Sub(f.d, f.s)),
+        8 => row(Shape::DK, Instruction::Addi(f.d, f.k)),
+        9 => row(Shape::DS, Instruction::Cmp(f.d, f.s)),
+        10 => row(Shape::S, Instruction::Bne(f.s)),
+        11 => row(Shape::S, Instruction::Br(f.s)),
+        12 => row(Shape::Bare, Instruction::Hvc),
+        13 => row(Shape::Bare, Instruction::Halt),
+        _ => row(Shape::None, Instruction::Halt),
+    }
+}
+
+// Whether each field that the shape has is a register's number, and each that it lacks is zero.
+fn fits_shape(shape: Shape, f: Fields) -> bool
+    ensures { λ r. ⌜ r ≡ fitsShape shape f ⌝ }
+{
+    match shape {
+        Shape::None => false,
+        Shape::DK => (f.d < 8) & (f.s == 0),
+        Shape::DS => (f.d < 8) & ((f.s < 8) & (f.k == 0)),
+        Shape::S => (f.d == 0) & ((f.s < 8) & (f.k == 0)),
+        Shape::Bare => (f.d == 0) & ((f.s == 0) & (f.k == 0)),
+    }
+}
+
+// Whether the fields are an instruction's.
+fn legal(f: Fields) -> bool
+    ensures { λ r. ⌜ r ≡ legal f ⌝ }
+{
+    let row = opcode_at(f);
+    let shape = row.shape;
+    (f.k < 65536) & fits_shape(shape, f)
+}
+
+// What a word means, if it means anything.
+pub fn decode(word: u32) -> Decoded
+    ensures { λ r. ⌜ r ≡ decodeOf word ⌝ }
+{
+    let f = fields_of(word);
+    if legal(f) {
+        let row = opcode_at(f);
+        let means = row.means;
+        Decoded::Meaning(means)
+    } else {
+        Decoded::NotInstruction
+    }
+}
+
+// Four fields together, for `parts_of`, which has them in each line.
+fn parts(code: u8, d: u8, s: u8, k: u32) -> Fields
+    ensures { λ r. ⌜ r ≡ fields code d s k ⌝ }
+{
+    Fields {
+        code: code,
+        d: d,
+        s: s,
+        k: k,
+    }
+}
+
+// The fields of a meaning: zero where the instruction has no field.
+fn parts_of(i: Instruction) -> Fields
+    ensures { λ r. ⌜ r ≡ partsOf i ⌝ }
+{
+    match i {
+        Instruction::Movi(d, k) => parts(1, d, 0, k),
+        Instruction::Movt(d, k) => parts(2, d, 0, k),
+        Instruction::Mov(d, s) => parts(3, d, s, 0),
+        Instruction::Ldr(d, s) => parts(4, d, s, 0),
+        Instruction::Str(d, s) => parts(5, d, s, 0),
+        Instruction::Add(d, s) => parts(6, d, s, 0),
+        Instruction::Sub(d, s) => parts(7, d, s, 0),
+        Instruction::Addi(d, k) => parts(8, d, 0, k),
+        Instruction::Cmp(d, s) => parts(9, d, s, 0),
+        Instruction::Bne(s) => parts(10, 0, s, 0),
+        Instruction::Br(s) => parts(11, 0, s, 0),
+        Instruction::Hvc => parts(12, 0, 0, 0),
+        Instruction::Halt => parts(13, 0, 0, 0),
+    }
+}
+
+// The word that has these fields.
+fn word_of(f: Fields) -> u32
+    requires { ⌜ legal f ≡ true ⌝ }
+    ensures { λ r. ⌜ r ≡ wordOf f ⌝ }
+{
+    f.code as u32 + 256 * (f.d as u32) + 4096 * (f.s as u32) + 65536 * f.k
+}
+
+// The word of a meaning, if a word can hold it.
+pub fn encode(i: Instruction) -> Encoded
+    ensures { λ r. ⌜ r ≡ encodeOf i ⌝ }
+{
+    let f = parts_of(i);
+    if legal(f) {
+        Encoded::Word(word_of(f))
+    } else {
+        Encoded::NotInstruction
+    }
 }

@@ -1,0 +1,2 @@
+-- What is proved of the contracts themselves.
+pub mod Settled
