@@ -1,2 +1,5 @@
--- What is proved of the contracts themselves.
+-- What is proved of the definitions and of the contracts themselves.
+pub mod Tests
+pub mod Laws
+pub mod Promises
 pub mod Settled

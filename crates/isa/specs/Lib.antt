@@ -1,8 +1,7 @@
--- The meaning of instruction words.
+-- The meaning of instruction words, and what is promised of it.
 pub mod Tests
 pub mod Opcodes
 pub mod Word
 pub mod Decode
 pub mod Encode
-pub mod Laws
 pub mod Promises

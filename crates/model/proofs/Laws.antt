@@ -5,7 +5,6 @@ use mathlib.Core.Bool.{Bool, true, false, cond, true≢false, false≢true}
 use mathlib.Core.List.{List}
 use native.Mathlib.Omega.{arith}
 use lib.ListN.{length, getD, length-set, length-drop}
-use lib.Seq.{paste}
 use lib.Dec.{ltb, eqb}
 use borrow.Author.Tests.{le-ltb, ltb-true, leb-true, eqb-true}
 use Rattle.model.specs.declared.Kind.{Kind}
@@ -23,7 +22,8 @@ use Rattle.model.specs.Sending.{isFree, lowestFree, granted, sendingVerd
 use Rattle.model.specs.HandleCall.{lookup}
 use Rattle.model.specs.Entries.{isDone, checkOf}
 use Rattle.model.specs.Laws.{NothingAboveLast, SentPagesAscend, LowestFreeIsTaken, SendCopiesItsLength}
-use Rattle.model.proofs.Tests.{and-left, and-right, every-at, ascending-lt, first-passes, before-first}
+use Rattle.isa.proofs.Tests.{and-left, and-right}
+use Rattle.model.proofs.Tests.{every-at, ascending-lt, first-passes, before-first}
 use Rattle.model.proofs.State.{register-same, length-written, written-same, transaction-same, transaction-other}
 use Rattle.model.proofs.Paste.{paste-front, paste-inside, paste-behind}
 use Rattle.model.proofs.Sound.{sound-holds}

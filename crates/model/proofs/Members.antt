@@ -1,5 +1,5 @@
 -- The members of the sets of guests, over any guest numbers.
-use Prim.Native.Nat.{ℕ, zero, suc, _+_, _*_, _/_, _%_, _^_}
+use Prim.Native.Nat.{ℕ, zero, suc, _+_, _/_, _%_, _^_}
 use mathlib.Core.Path.{_≡_, refl, sym, ap, _∙_}
 use mathlib.Core.Bool.{Bool, true, false, cond}
 use native.Mathlib.Nat.{zero-add, div-one, zero-div, pow-succ'}
@@ -13,7 +13,7 @@ use Rattle.model.specs.declared.VmId.{VmId}
 use Rattle.model.specs.declared.VmSet.{VmSet}
 use Rattle.model.specs.State.{sameVm}
 use Rattle.model.specs.VmSet.{has, none, only, with}
-use Rattle.model.proofs.Tests.{or-nothing}
+use Rattle.isa.proofs.Tests.{or-nothing}
 
 -- Bits. The next bit of a number is that bit of its half.
 

@@ -3,7 +3,7 @@ use Prim.Native.Nat.{ℕ, _+_, _-_, _≤_, _<_}
 use mathlib.Core.Path.{_≡_, sym, ap, _∙_}
 use mathlib.Core.List.{List, _++_}
 use native.Mathlib.Omega.{arith}
-use lib.ListN.{length, getD, take, drop, List·getD-append}
+use lib.ListN.{length, getD, take, List·getD-append}
 use lib.Seq.{length-take-le, getD-take, getD-drop, getD-append-add, paste, take-paste, drop-paste}
 
 module _ {A : Type 0} (l : List A) (at : ℕ) (new : List A) (n : ℕ) (fits : at + n ≤ length l) (enough : n ≤ length new) (d : A) where

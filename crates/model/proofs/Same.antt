@@ -11,7 +11,8 @@ use Rattle.model.specs.declared.PageRecord.{PageRecord}
 use Rattle.model.specs.State.{vm, page, sameVm, samePage}
 use Rattle.model.specs.VmSet.{sameSet}
 use Rattle.model.specs.Row.{sameOwner, sameRecord}
-use Rattle.model.proofs.Tests.{and-left, and-right, and-intro, agree-true, eq-agree}
+use Rattle.isa.proofs.Tests.{and-left, and-right, and-intro}
+use Rattle.model.proofs.Tests.{agree-true, eq-agree}
 
 pub sameVm-true : (g k : VmId) → sameVm g k ≡ true → g ≡ k
 unfolding sameVm

@@ -37,8 +37,8 @@ use Rattle.model.specs.Sound.{pagesBelow, PagesBelow, pagesNoMailbox, Pa
 use Rattle.model.specs.Sound.{noDonationRetrieved, NoDonationRetrieved, noPageTwice, NoPageTwice, recordsDue, RecordsDue}
 use Rattle.model.specs.Sound.{blankGuest, BlankGuest, guestsBlank, GuestsBlank, pagesBlank, PagesBlank, placesBlank, PlacesBlank}
 use Rattle.model.specs.Sound.{sound, Sound}
-use Rattle.model.proofs.Tests.{not-both, cannot-pass, false-not, and-left, and-right, and-intro, and-false-right, and-false}
-use Rattle.model.proofs.Tests.{or-else, or-either, or-left, or-right, every-at, at-every, at-some, some-at, ascending-at, at-ascending}
+use Rattle.isa.proofs.Tests.{not-both, cannot-pass, false-not, and-left, and-right, and-intro, and-false-right, and-false, or-else, or-either, or-left, or-right}
+use Rattle.model.proofs.Tests.{every-at, at-every, at-some, some-at, ascending-at, at-ascending}
 use Rattle.model.proofs.Same.{sameVm-true, eq-sameVm, samePage-true, eq-samePage, sameRecord-true, eq-sameRecord}
 
 -- Two tests are two facts.

@@ -6,7 +6,7 @@ use Rattle.model.specs.State.{sameVm}
 use Rattle.model.specs.VmSet.{none, only}
 use Rattle.model.specs.Row.{shares, holders, mailboxRow, freeRow, row}
 use Rattle.model.specs.Table.{Table}
-use Rattle.model.proofs.Tests.{or-nothing}
+use Rattle.isa.proofs.Tests.{or-nothing}
 use Rattle.model.proofs.Members.{has-none, has-only, has-with}
 
 pub table : (i j : VmId) (count : ℕ) → Table i j count

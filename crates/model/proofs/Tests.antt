@@ -1,7 +1,7 @@
 -- The laws of the tests and changes over numbers: what each tells where it passes or fails, and how to make it pass.
 use Prim.Native.Nat.{ℕ, zero, suc, _≤_, _<_}
 use mathlib.Core.Path.{_≡_, refl, sym, ap, _∙_}
-use mathlib.Core.Bool.{Bool, true, false, not, cond, true≢false, false≢true}
+use mathlib.Core.Bool.{Bool, true, false, cond, false≢true}
 use mathlib.Core.List.{List}
 use mathlib.Core.Logic.{_⊎_, inl, inr}
 use native.Mathlib.Nat.{eq-or-lt-of-le, le-of-suc-le-suc}
@@ -11,94 +11,8 @@ use lib.ListN.{length, getD, length-set}
 use lib.Seq.{getD-set-same, getD-set-other}
 use lib.Dec.{ltb}
 use borrow.Author.Tests.{ltb-true, ltb-false, lt-ltb}
-use Rattle.isa.specs.Tests.{_and_, _or_}
+use Rattle.isa.proofs.Tests.{and-intro, and-left, and-right, cannot-pass, not-both, or-else, or-false, or-left, or-right}
 use Rattle.model.specs.Tests.{agree, every, some, orNext, first, ascending, sets}
-
--- A test does not both pass and fail, and fails if it cannot pass.
-
-pub not-both : {a : Bool} → a ≡ true → a ≡ false → ⊥
-not-both p q = true≢false (sym p ∙ q)
-
-pub cannot-pass : {a : Bool} → (a ≡ true → ⊥) → a ≡ false
-cannot-pass {a = true} h = absurd (h refl)
-cannot-pass {a = false} h = refl
-
--- The negation. The way back is `not-true` and `not-false` of `borrow.Author.Tests`.
-
-pub false-not : {a : Bool} → a ≡ false → not a ≡ true
-false-not p = ap not p
-
-pub true-not : {a : Bool} → a ≡ true → not a ≡ false
-true-not p = ap not p
-
--- Both.
-
-pub and-left : (a b : Bool) → a and b ≡ true → a ≡ true
-unfolding _and_
-and-left true b e = refl
-and-left false b e = e
-
-pub and-right : (a b : Bool) → a and b ≡ true → b ≡ true
-unfolding _and_
-and-right true b e = e
-and-right false b e = absurd (false≢true e)
-
-pub and-intro : {a b : Bool} → a ≡ true → b ≡ true → a and b ≡ true
-unfolding _and_
-and-intro {a = true} p q = q
-and-intro {a = false} p q = p
-
-pub and-false-right : (a b : Bool) → a and b ≡ false → a ≡ true → b ≡ false
-unfolding _and_
-and-false-right true b e p = e
-and-false-right false b e p = absurd (false≢true p)
-
-pub and-false : (a b : Bool) → (a ≡ true → b ≡ false) → a and b ≡ false
-unfolding _and_
-and-false true b h = h refl
-and-false false b h = refl
-
--- Either.
-
-pub or-else : (a b : Bool) → a or b ≡ true → a ≡ false → b ≡ true
-unfolding _or_
-or-else true b e p = absurd (true≢false p)
-or-else false b e p = e
-
-pub or-either : (a b : Bool) → a or b ≡ true → (a ≡ true) ⊎ (b ≡ true)
-unfolding _or_
-or-either true b e = inl refl
-or-either false b e = inr e
-
-pub or-left : {a : Bool} (b : Bool) → a ≡ true → a or b ≡ true
-unfolding _or_
-or-left {a = true} b p = refl
-or-left {a = false} b p = absurd (false≢true p)
-
-pub or-right : (a : Bool) {b : Bool} → b ≡ true → a or b ≡ true
-unfolding _or_
-or-right true q = refl
-or-right false q = q
-
-pub or-false-left : (a b : Bool) → a or b ≡ false → a ≡ false
-unfolding _or_
-or-false-left true b e = e
-or-false-left false b e = refl
-
-pub or-false-right : (a b : Bool) → a or b ≡ false → b ≡ false
-unfolding _or_
-or-false-right true b e = absurd (true≢false e)
-or-false-right false b e = e
-
-pub or-false : {a b : Bool} → a ≡ false → b ≡ false → a or b ≡ false
-unfolding _or_
-or-false {a = true} p q = p
-or-false {a = false} p q = q
-
-pub or-nothing : (a : Bool) → a or false ≡ a
-unfolding _or_
-or-nothing true = refl
-or-nothing false = refl
 
 -- Agreement.
 

@@ -1,6 +1,6 @@
 -- The call that a guest makes: R0 chooses it.
 use Prim.Native.Nat.{ℕ}
-use mathlib.Core.Bool.{Bool, true, false}
+use mathlib.Core.Bool.{true, false}
 use mathlib.Core.List.{List, [], _∷_}
 use lib.Dec.{eqb}
 use Rattle.model.specs.declared.Kind.the-variants.{Donate, Lend, Share}

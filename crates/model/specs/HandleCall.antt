@@ -1,6 +1,6 @@
 -- The calls on a handle: they look up their transaction first, and go through one chain of tests.
 use Prim.Native.Nat.{ℕ}
-use mathlib.Core.Bool.{Bool, true, false, cond}
+use mathlib.Core.Bool.{Bool, cond}
 use mathlib.Core.List.{List}
 use lib.Dec.{ltb}
 use Rattle.model.specs.declared.VmId.{VmId}
@@ -15,7 +15,7 @@ use Rattle.model.specs.declared.Machine.{Machine}
 use Rattle.model.specs.Constants.{HANDLES, INVALID, DENIED, ABORTED}
 use Rattle.model.specs.Tests.{agree, every}
 use Rattle.model.specs.State.{State, state, handle, recordAt, transactionAt, pageAt, countOf, argument}
-use Rattle.model.specs.Row.{sends, receives, row, sameRecord}
+use Rattle.model.specs.Row.{row, sameRecord}
 use Rattle.model.specs.Reply.{Verdict, passes, refused, need, answer, succeeded}
 
 -- Looking up.

@@ -1,5 +1,5 @@
 -- Where the definitions read memory: what the current guest fetches and loads, and what stands in its TX page.
-use Prim.Native.Nat.{ℕ, _+_, _*_}
+use Prim.Native.Nat.{ℕ, _*_}
 use mathlib.Core.List.{List}
 use lib.ListN.{getD, drop}
 use Rattle.model.specs.declared.PageId.{PageId}

@@ -6,27 +6,24 @@
 use Prim.Native.Nat.{ℕ, _*_}
 use mathlib.Core.Path.{_≡_}
 use mathlib.Core.Bool.{Bool, true, false}
-use mathlib.Core.List.{List, [], _∷_, _++_}
+use mathlib.Core.List.{List, [], _∷_}
 use lib.ListN.{replicate}
 use lib.Seq.{paste}
 use Rattle.isa.specs.declared.Instruction.the-variants.{Movi}
-use Rattle.isa.specs.declared.Decoded.{Decoded}
 use Rattle.isa.specs.declared.Decoded.the-variants.{Meaning, NotInstruction}
 use Rattle.isa.specs.Decode.{decodeOf}
 use Rattle.model.specs.declared.VmId.{VmId}
-use Rattle.model.specs.declared.Registers.{Registers}
 use Rattle.model.specs.declared.Mailbox.{Mailbox}
 use Rattle.model.specs.declared.Inbox.the-variants.{Empty}
-use Rattle.model.specs.declared.Owner.{Owner}
 use Rattle.model.specs.declared.Owner.the-variants.{Nobody, Guest}
 use Rattle.model.specs.declared.PageRecord.{PageRecord}
 use Rattle.model.specs.declared.Kind.{Kind}
-use Rattle.model.specs.declared.Kind.the-variants.{Donate, Lend, Share}
+use Rattle.model.specs.declared.Kind.the-variants.{Lend, Share}
 use Rattle.model.specs.declared.Life.{Life}
 use Rattle.model.specs.declared.Life.the-variants.{Free, Live}
 use Rattle.model.specs.declared.Mode.the-variants.{Normal}
 use Rattle.model.specs.declared.Machine.{Machine}
-use Rattle.model.specs.State.{State, state, vm, page, handle, written, withRegisters, withCurrent, registersAt, register, recordAt, transactionAt}
+use Rattle.model.specs.State.{vm, page, handle, written, withRegisters, withCurrent, registersAt, register, recordAt, transactionAt}
 use Rattle.model.specs.Tests.{every}
 use Rattle.model.specs.Row.{pageRecord, sameRecord}
 use Rattle.model.specs.Entries.{Acted, stepOf, callOf, answerNumber}

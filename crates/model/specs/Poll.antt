@@ -1,6 +1,5 @@
 -- The call Poll: the caller takes its waiting message.
 use mathlib.Core.Bool.{not}
-use Rattle.model.specs.declared.Inbox.{Inbox}
 use Rattle.model.specs.declared.Inbox.the-variants.{Empty}
 use Rattle.model.specs.declared.Machine.{Machine}
 use Rattle.model.specs.Constants.{SEND, NO-DATA}

@@ -1,6 +1,5 @@
 -- The table of page records: the record that is due to a page by what it is used for. Every question about a kind, and
 -- who is a party of a transaction, is asked here and nowhere else.
-use Prim.Native.Nat.{ℕ}
 use mathlib.Core.Bool.{Bool, true, false, cond, not}
 use Rattle.isa.specs.Tests.{_and_}
 use Rattle.model.specs.declared.VmId.{VmId}

@@ -1,5 +1,4 @@
 -- The call Run: guest 0 makes another guest current.
-use mathlib.Core.Bool.{Bool}
 use lib.Dec.{ltb, leb}
 use Rattle.isa.specs.Tests.{_and_}
 use Rattle.model.specs.declared.Machine.{Machine}

@@ -1,6 +1,5 @@
 -- The call Send: words of the caller's TX page go to another guest's RX page.
 use Prim.Native.Nat.{ℕ}
-use mathlib.Core.Bool.{Bool, cond}
 use mathlib.Core.List.{List}
 use lib.Dec.{leb}
 use lib.Seq.{paste}

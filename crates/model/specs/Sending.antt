@@ -2,13 +2,12 @@
 use Prim.Native.Nat.{ℕ, _+_, _-_, _/_, _%_}
 use mathlib.Core.Bool.{Bool, true, false}
 use mathlib.Core.List.{List}
-use lib.ListN.{set, replicate}
+use lib.ListN.{replicate}
 use lib.Dec.{ltb, leb, eqb}
 use Rattle.isa.specs.Tests.{_and_}
 use Rattle.model.specs.declared.VmId.{VmId}
 use Rattle.model.specs.declared.PageId.{PageId}
 use Rattle.model.specs.declared.Handle.{Handle}
-use Rattle.model.specs.declared.PageRecord.{PageRecord}
 use Rattle.model.specs.declared.Kind.{Kind}
 use Rattle.model.specs.declared.Kind.the-variants.{Donate, Lend, Share}
 use Rattle.model.specs.declared.Deal.{Deal}

@@ -1,5 +1,5 @@
 -- A state: the machine and its memory. Reading and replacing the machine's parts.
-use Prim.Native.Nat.{ℕ, _+_, _*_, _%_}
+use Prim.Native.Nat.{ℕ, _+_, _%_}
 use mathlib.Core.Bool.{Bool, true, false}
 use mathlib.Core.List.{List, []}
 use lib.ListN.{getD, set}
@@ -14,7 +14,6 @@ use Rattle.model.specs.declared.Inbox.the-variants.{Empty, Full}
 use Rattle.model.specs.declared.InboxSlot.{InboxSlot}
 use Rattle.model.specs.declared.Owner.the-variants.{Nobody}
 use Rattle.model.specs.declared.PageRecord.{PageRecord}
-use Rattle.model.specs.declared.Deal.{Deal}
 use Rattle.model.specs.declared.Life.{Life}
 use Rattle.model.specs.declared.Life.the-variants.{Free, Live}
 use Rattle.model.specs.declared.Transaction.{Transaction}

@@ -1,9 +1,7 @@
 -- One step of the machine: the current guest's instruction.
-use Prim.Native.Nat.{ℕ}
-use mathlib.Core.List.{List}
 use lib.ListN.{set}
 use Rattle.model.specs.declared.Registers.{Registers}
-use Rattle.model.specs.declared.Mode.the-variants.{Normal, Fault, Halted}
+use Rattle.model.specs.declared.Mode.the-variants.{Fault, Halted}
 use Rattle.model.specs.declared.Machine.{Machine}
 use Rattle.model.specs.State.{State, state, ownRegisters, withRegisters, withMode}
 use Rattle.model.specs.Rights.{rights}

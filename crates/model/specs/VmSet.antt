@@ -1,5 +1,5 @@
 -- Sets of guests: bit g of the number is set if guest g is in the set.
-use Prim.Native.Nat.{ℕ, _+_, _/_, _%_, _^_}
+use Prim.Native.Nat.{_+_, _/_, _%_, _^_}
 use mathlib.Core.Bool.{Bool, cond}
 use lib.Dec.{eqb}
 use Rattle.model.specs.declared.VmId.{VmId}

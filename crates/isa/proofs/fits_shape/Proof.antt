@@ -1,11 +1,12 @@
 -- `isa::fits_shape` meets its contract: each arm is given which shape it is.
 -- Assumes nothing.
-use Rattle.isa.specs.Word.{both, fitsShape}
+use Rattle.isa.specs.Tests.{_and_}
+use Rattle.isa.specs.Word.{fitsShape}
 use Rattle.isa.proofs.fits_shape.Statement.{statement}
 use Rattle.isa.proofs.fits_shape.Tie as tie
 
 pub fits-shape-spec : {M : Type 1} → statement M
-unfolding fitsShape both
+unfolding fitsShape _and_
 fits-shape-spec =
     tie.close
     (tie.spec

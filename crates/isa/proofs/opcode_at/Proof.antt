@@ -5,7 +5,7 @@ use Prim.Native.Nat.{ℕ, zero, suc, _≤_}
 use mathlib.Core.Path.{_≡_, _∙_, sym}
 use native.Mathlib.Omega.{arith}
 use Rattle.isa.specs.Opcodes.{opcodes, opcodeAt}
-use Rattle.isa.specs.Laws.{no-opcode}
+use Rattle.isa.proofs.Laws.{no-opcode}
 use Rattle.isa.proofs.opcode_at.Statement.{statement}
 use Rattle.isa.proofs.opcode_at.Tie as tie
 

@@ -3,7 +3,7 @@
 use borrow.Author.Needs.{needs}
 use native.Mathlib.Omega.{arith}
 use Rattle.isa.specs.Word.{Bounded}
-use Rattle.isa.specs.Laws.{legal-bounded}
+use Rattle.isa.proofs.Laws.{legal-bounded}
 use Rattle.isa.proofs.word_of.Statement.{statement}
 use Rattle.isa.proofs.word_of.Tie as tie
 

@@ -14,8 +14,9 @@ use Rattle.isa.specs.declared.Shape.the-variants.{None, DK, DS, S, Bare}
 use Rattle.isa.specs.declared.Fields.{Fields}
 use Rattle.isa.specs.declared.Opcode.{Opcode}
 use Rattle.isa.specs.Opcodes.{opcode, opcodes, opcodeAt}
-use Rattle.isa.specs.Word.{fieldsOf, wordOf, both, fitsShape, legal, Bounded}
+use Rattle.isa.specs.Word.{fieldsOf, wordOf, fitsShape, legal, Bounded}
 use Rattle.isa.specs.Encode.{fields, partsOf}
+use Rattle.isa.proofs.Tests.{and-parts}
 
 ruleset tests = (arith, ltb-true, eqb-true)
 
@@ -36,11 +37,6 @@ no-opcode f h = go (leb (f .code) 13) refl
         (opcode None Halt)
         (leb-false (f .code) 13 e)
 
-both-true : (a b : Bool) → both a b ≡ true → (a ≡ true) × (b ≡ true)
-unfolding both
-both-true true b e = (refl, e)
-both-true false b e = (e, cc)
-
 -- the fields with zero where the shape has none. `None` is the shape of the row that stands for no instruction.
 kept : Shape → Fields → Fields
 kept None f = partsOf Halt
@@ -57,19 +53,19 @@ fits :
 unfolding fitsShape kept
 fits None f e = let z : _≡_ {A = ℕ} 0 1 = cc in absurd (omega arith)
 fits DK f e =
-    let h = both-true _ _ e in
+    let h = and-parts _ _ e in
     (omega tests, omega tests, same-fields _ f refl refl (omega tests) refl)
 fits DS f e =
-    let h = both-true _ _ e in
-    let g = both-true _ _ (h .1) in
+    let h = and-parts _ _ e in
+    let g = and-parts _ _ (h .1) in
     (omega tests, omega tests, same-fields _ f refl refl refl (omega tests))
 fits S f e =
-    let h = both-true _ _ e in
-    let g = both-true _ _ (h .1) in
+    let h = and-parts _ _ e in
+    let g = and-parts _ _ (h .1) in
     (omega tests, omega tests, same-fields _ f refl (omega tests) refl (omega tests))
 fits Bare f e =
-    let h = both-true _ _ e in
-    let g = both-true _ _ (h .1) in
+    let h = and-parts _ _ e in
+    let g = and-parts _ _ (h .1) in
     (omega tests, omega tests, same-fields _ f refl (omega tests) (omega tests) (omega tests))
 
 legal-code : (f : Fields) → fitsShape (opcodeAt f .shape) f ≡ true → f .code ≤ 13
@@ -86,7 +82,7 @@ legal-code f e = go (leb (f .code) 13) refl
 pub legal-bounded : (f : Fields) → legal f ≡ true → Bounded f
 unfolding legal
 legal-bounded f e =
-    let h = both-true _ _ e in
+    let h = and-parts _ _ e in
     let g = fits (opcodeAt f .shape) f (h .1) in
     record { code = legal-code f (h .1); d = g .0; s = g .1; k = ltb-true _ _ (h .0) }
 
@@ -117,7 +113,7 @@ parts-kept f =
 -- the fields of what a legal word means are that word's
 pub parts-means : (f : Fields) → legal f ≡ true → partsOf (opcodeAt f .means) ≡ f
 unfolding legal
-parts-means f e = parts-kept f ∙ fits (opcodeAt f .shape) f (both-true _ _ e .1) .2
+parts-means f e = parts-kept f ∙ fits (opcodeAt f .shape) f (and-parts _ _ e .1) .2
 
 pub fields-word : (f : Fields) → Bounded f → fieldsOf (wordOf f) ≡ f
 fields-word f b = same-fields _ f (omega arith) (omega arith) (omega arith) (omega arith)
