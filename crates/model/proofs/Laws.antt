@@ -5,15 +5,17 @@ use mathlib.Core.Bool.{Bool, true, false, cond, true≢false, false≢true}
 use mathlib.Core.List.{List}
 use native.Mathlib.Omega.{arith}
 use lib.ListN.{length, getD, length-set, length-drop}
-use lib.Dec.{ltb, eqb}
+use lib.Dec.{ltb, eqb, eqb·suc-zero}
 use borrow.Author.Tests.{le-ltb, ltb-true, leb-true, eqb-true}
+use Rattle.isa.specs.Tests.{_and_}
 use Rattle.model.specs.declared.Kind.{Kind}
 use Rattle.model.specs.declared.Transaction.{Transaction}
 use Rattle.model.specs.declared.Machine.{Machine}
 use Rattle.model.specs.declared.Answer.the-variants.{Done, WrongMemory, Unsound}
 use Rattle.model.specs.Constants.{PAGE, HANDLES, SUCCESS}
 use Rattle.model.specs.State.{State, state, vm, handle, transactionAt, registersAt, register, withRegister, written, mailboxAt, ownMailbox, argument}
-use Rattle.model.specs.Sound.{sound, Sound}
+use Rattle.model.specs.Blank.{blank}
+use Rattle.model.specs.Sound.{countsInRange, sound, Sound}
 use Rattle.model.specs.Memory.{baseOf, txWords, txWord}
 use Rattle.model.specs.Reply.{Verdict, passes, refused, need, answer, succeeded, isOther}
 use Rattle.model.specs.Send.{sendVerdict, sendEffect, sendTo, sendBase, sendLength, copied}
@@ -21,7 +23,7 @@ use Rattle.model.specs.Deeds.{settled}
 use Rattle.model.specs.Sending.{isFree, lowestFree, granted, sendingVerdict, sendingEffect, sent, withHandle, isBase, sentBase, sentPage}
 use Rattle.model.specs.HandleCall.{lookup}
 use Rattle.model.specs.Entries.{isDone, checkOf}
-use Rattle.model.specs.Laws.{NothingAboveLast, SentPagesAscend, LowestFreeIsTaken, SendCopiesItsLength}
+use Rattle.model.specs.Laws.{NothingAboveLast, SentPagesAscend, LowestFreeIsTaken, SendCopiesItsLength, BlankIsRefused}
 use Rattle.isa.proofs.Tests.{and-left, and-right}
 use Rattle.model.proofs.Tests.{every-at, ascending-lt, first-passes, before-first}
 use Rattle.model.proofs.State.{register-same, length-written, written-same, transaction-same, transaction-other}
@@ -124,6 +126,12 @@ lowest-free-is-taken kind s shaped low e =
           )
           (register-same (withRegister (registersAt files g) 0 SUCCESS) 2 (h .0) (simp length-set r2-fits));
     }
+
+-- The blank machine.
+
+pub blank-is-refused : BlankIsRefused
+unfolding checkOf blank sound countsInRange _and_
+blank-is-refused = record { without-memory = refl; with-memory = λ w memory. rw (eqb·suc-zero (length memory)) }
 
 -- What the check says where it answers 0.
 

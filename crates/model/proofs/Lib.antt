@@ -7,4 +7,5 @@ pub mod Table
 pub mod Paste
 pub mod Sound
 pub mod Laws
+pub mod Computing
 pub mod PCases

@@ -2,16 +2,17 @@
 use Prim.Native.Nat.{ℕ, _+_, _≤_, _<_}
 use mathlib.Core.Path.{_≡_}
 use mathlib.Core.Bool.{true, false}
-use mathlib.Core.List.{List}
+use mathlib.Core.List.{List, [], _∷_}
 use lib.ListN.{getD}
 use Rattle.model.specs.declared.Kind.{Kind}
 use Rattle.model.specs.declared.Transaction.{Transaction}
 use Rattle.model.specs.declared.Found.the-variants.{Nothing}
-use Rattle.model.specs.declared.Answer.the-variants.{Done}
+use Rattle.model.specs.declared.Answer.the-variants.{Done, WrongMemory, Unsound}
 use Rattle.model.specs.Constants.{GUESTS}
 use Rattle.model.specs.State.{State, handle, registersAt, register, transactionAt}
 use Rattle.model.specs.Shaped.{Shaped}
 use Rattle.model.specs.Memory.{txWord}
+use Rattle.model.specs.Blank.{blank}
 use Rattle.model.specs.Reply.{passes}
 use Rattle.model.specs.Send.{sendVerdict, sendEffect, sendBase, sendLength}
 use Rattle.model.specs.Sending.{isFree, lowestFree, sendingVerdict, sendingEffect, sentTransaction, sentPage, sentCount}
@@ -52,3 +53,9 @@ pub record Copies (s : State) : Type 0 where
 abbrev pub SendCopiesItsLength : Type 0
 SendCopiesItsLength =
     (s : State) → checkOf (s .machine) (s .memory) ≡ Done → sendVerdict (s .machine) ≡ passes → Copies s
+
+-- the length of memory is judged first, of any machine: with no memory the blank one is unsound, with any other memory it
+-- has too much
+pub record BlankIsRefused : Type 0 where
+  pub without-memory : checkOf blank [] ≡ Unsound
+  pub with-memory : (w : ℕ) (memory : List ℕ) → checkOf blank (w ∷ memory) ≡ WrongMemory

@@ -18,6 +18,7 @@ pub mod Poll
 pub mod Wait
 pub mod Send
 pub mod Deeds
+pub mod Blank
 pub mod Sending
 pub mod HandleCall
 pub mod Retrieve

@@ -26,6 +26,8 @@ use Rattle.model.specs.declared.Machine.{Machine}
 use Rattle.model.specs.State.{vm, page, handle, written, withRegisters, withCurrent, registersAt, register, recordAt, transactionAt}
 use Rattle.model.specs.Tests.{every}
 use Rattle.model.specs.Row.{pageRecord, sameRecord}
+use Rattle.model.specs.Deeds.{freed}
+use Rattle.model.specs.Blank.{blankRegisters}
 use Rattle.model.specs.Entries.{Acted, stepOf, callOf, answerNumber}
 
 -- The machine.
@@ -45,7 +47,7 @@ machine =
     record {
       n = 3;
       m = 10;
-      registers = replicate 8 (record { r = replicate 8 0; pc = 0; equal = false });
+      registers = replicate 8 blankRegisters;
       mailboxes = box 3 4 ∷ box 5 6 ∷ box 7 8 ∷ replicate 5 (box 0 0);
       inboxes = replicate 8 (record { inbox = Empty });
       records =
@@ -60,7 +62,7 @@ machine =
           ∷ ownerless 0b100 true
           ∷ owned 1 0b010 true
           ∷ replicate 54 (ownerless 0 false);
-      transactions = replicate 16 (record { life = Free; pages = replicate 8 (page 0) });
+      transactions = replicate 16 freed;
       current = vm 0;
       mode = Normal;
     }

@@ -136,5 +136,5 @@ pub struct Loaded {
     pub answer: Answer,
     pub machine: Machine,
     pub budget: u32,
-    pub offset: u32,
+    pub offset: usize,
 }
