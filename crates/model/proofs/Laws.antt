@@ -13,6 +13,7 @@ use Rattle.model.specs.declared.Transaction.{Transaction}
 use Rattle.model.specs.declared.Machine.{Machine}
 use Rattle.model.specs.declared.Answer.the-variants.{Done, WrongMemory, Unsound}
 use Rattle.model.specs.Constants.{PAGE, HANDLES, SUCCESS}
+use Rattle.model.specs.Answer.{answerNumber, answers, isDone}
 use Rattle.model.specs.State.{State, state, vm, handle, transactionAt, registersAt, register, withRegister, written, mailboxAt, ownMailbox, argument}
 use Rattle.model.specs.Blank.{blank}
 use Rattle.model.specs.Sound.{countsInRange, sound, Sound}
@@ -22,7 +23,7 @@ use Rattle.model.specs.Send.{sendVerdict, sendEffect, sendTo, sendBase, 
 use Rattle.model.specs.Deeds.{settled}
 use Rattle.model.specs.Sending.{isFree, lowestFree, granted, sendingVerdict, sendingEffect, sent, withHandle, isBase, sentBase, sentPage}
 use Rattle.model.specs.HandleCall.{lookup}
-use Rattle.model.specs.Entries.{isDone, checkOf}
+use Rattle.model.specs.Entries.{checkOf}
 use Rattle.model.specs.Laws.{NothingAboveLast, SentPagesAscend, LowestFreeIsTaken, SendCopiesItsLength, BlankIsRefused}
 use Rattle.isa.proofs.Tests.{and-left, and-right}
 use Rattle.model.proofs.Tests.{every-at, ascending-lt, first-passes, before-first}
@@ -137,17 +138,17 @@ blank-is-refused = record { without-memory = refl; with-memory = λ w memory. rw
 
 done-parts : (right accepted : Bool) → isDone (cond right (cond accepted Done Unsound) WrongMemory) ≡ true
     → (right ≡ true) × (accepted ≡ true)
-unfolding isDone
+unfolding answerNumber answers
 done-parts true true e = (refl, refl)
 done-parts true false e = absurd (false≢true e)
 done-parts false accepted e = absurd (false≢true e)
 
 pub done-memory : (m : Machine) (memory : List ℕ) → checkOf m memory ≡ Done → length memory ≡ PAGE * m .m
-unfolding checkOf isDone
+unfolding checkOf answers answerNumber
 done-memory m memory e = eqb-true _ _ (done-parts (eqb (length memory) (PAGE * m .m)) (sound m) (ap isDone e) .0)
 
 pub done-sound : (m : Machine) (memory : List ℕ) → checkOf m memory ≡ Done → Sound m
-unfolding checkOf isDone
+unfolding checkOf answers answerNumber
 done-sound m memory e = sound-holds m (done-parts (eqb (length memory) (PAGE * m .m)) (sound m) (ap isDone e) .1)
 
 -- Send.

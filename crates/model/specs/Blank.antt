@@ -1,6 +1,6 @@
 -- The blank machine, and what a refused load gives back.
 use Prim.Native.Nat.{ℕ}
-use mathlib.Core.Bool.{Bool, true, false, cond}
+use mathlib.Core.Bool.{false, cond}
 use lib.ListN.{replicate}
 use Rattle.model.specs.declared.Registers.{Registers}
 use Rattle.model.specs.declared.Inbox.the-variants.{Empty}
@@ -8,10 +8,10 @@ use Rattle.model.specs.declared.Owner.the-variants.{Nobody}
 use Rattle.model.specs.declared.Mode.the-variants.{Halted}
 use Rattle.model.specs.declared.Machine.{Machine}
 use Rattle.model.specs.declared.Answer.{Answer}
-use Rattle.model.specs.declared.Answer.the-variants.{Done, WrongMemory, Unsound, Stopped, BrokenImage}
 use Rattle.model.specs.declared.Loaded.{Loaded}
 use Rattle.model.specs.Constants.{GUESTS, PAGES, HANDLES}
 use Rattle.model.specs.State.{page, primary}
+use Rattle.model.specs.Answer.{answers}
 use Rattle.model.specs.Row.{freeRow}
 use Rattle.model.specs.Deeds.{freed}
 
@@ -33,14 +33,7 @@ blank =
       mode = Halted;
     }
 
-unfoldable pub isBroken : Answer → Bool
-isBroken Done = false
-isBroken WrongMemory = false
-isBroken Unsound = false
-isBroken Stopped = false
-isBroken BrokenImage = true
-
 -- the blank machine and no budget; the offset is told only of a broken image
 unfoldable pub refusedLoad : Answer → ℕ → Loaded
 refusedLoad answer offset =
-    record { answer = answer; machine = blank; budget = 0; offset = cond (isBroken answer) offset 0 }
+    record { answer = answer; machine = blank; budget = 0; offset = cond (answers answer 4) offset 0 }

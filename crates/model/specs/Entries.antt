@@ -1,6 +1,6 @@
 -- What each entry answers, for every machine, memory and argument, refused ones too.
 use Prim.Native.Nat.{ℕ, zero, suc, _+_, _*_}
-use mathlib.Core.Bool.{Bool, true, false, cond}
+use mathlib.Core.Bool.{true, false, cond}
 use mathlib.Core.List.{List, []}
 use lib.ListN.{length, take, drop}
 use lib.Dec.{ltb, eqb}
@@ -8,34 +8,20 @@ use Rattle.model.specs.declared.VmId.{VmId}
 use Rattle.model.specs.declared.Mode.{Mode}
 use Rattle.model.specs.declared.Machine.{Machine}
 use Rattle.model.specs.declared.Answer.{Answer}
-use Rattle.model.specs.declared.Answer.the-variants.{Done, WrongMemory, Unsound, Stopped, BrokenImage}
+use Rattle.model.specs.declared.Answer.the-variants.{Done, WrongMemory, Unsound, Stopped}
 use Rattle.model.specs.declared.Stepped.{Stepped}
 use Rattle.model.specs.declared.Ran.{Ran}
 use Rattle.model.specs.Constants.{PAGE}
 use Rattle.model.specs.State.{State, state, mailboxAt, inboxAt, lengthOf, isNormal}
+use Rattle.model.specs.Answer.{isDone}
 use Rattle.model.specs.Sound.{sound}
 use Rattle.model.specs.Memory.{baseOf}
 use Rattle.model.specs.Call.{callEffect}
 use Rattle.model.specs.Step.{stepEffect}
 
--- The numbers of the answers.
-unfoldable pub answerNumber : Answer → ℕ
-answerNumber Done = 0
-answerNumber WrongMemory = 1
-answerNumber Unsound = 2
-answerNumber Stopped = 3
-answerNumber BrokenImage = 4
-
 -- check: memory of the right length, then a sound machine
 unfoldable pub checkOf : Machine → List ℕ → Answer
 checkOf m memory = cond (eqb (length memory) (PAGE * m .m)) (cond (sound m) Done Unsound) WrongMemory
-
-unfoldable pub isDone : Answer → Bool
-isDone Done = true
-isDone WrongMemory = false
-isDone Unsound = false
-isDone Stopped = false
-isDone BrokenImage = false
 
 -- step and call also want the mode normal, once the check has passed
 unfoldable pub thenMode : Answer → Mode → Answer

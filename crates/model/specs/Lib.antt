@@ -1,6 +1,7 @@
 -- What the machine is and what every entry answers, one file for each subject.
 pub mod Tests
 pub mod Constants
+pub mod Answer
 pub mod State
 pub mod Shaped
 pub mod VmSet

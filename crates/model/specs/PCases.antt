@@ -28,7 +28,8 @@ use Rattle.model.specs.Tests.{every}
 use Rattle.model.specs.Row.{pageRecord, sameRecord}
 use Rattle.model.specs.Deeds.{freed}
 use Rattle.model.specs.Blank.{blankRegisters}
-use Rattle.model.specs.Entries.{Acted, stepOf, callOf, answerNumber}
+use Rattle.model.specs.Answer.{answerNumber}
+use Rattle.model.specs.Entries.{Acted, stepOf, callOf}
 
 -- The machine.
 

@@ -17,7 +17,7 @@ use Rattle.model.specs.declared.Transaction.{Transaction}
 use Rattle.model.specs.declared.Machine.{Machine}
 use Rattle.model.specs.Constants.{PAGE, HANDLES, PLACES, INVALID, DENIED, NO-MEMORY}
 use Rattle.model.specs.Tests.{every, first, ascending, sets}
-use Rattle.model.specs.State.{State, state, vm, page, handle, recordAt, transactionAt, argument, written, withRegisters}
+use Rattle.model.specs.State.{State, state, vm, page, handle, recordAt, place, argument, written, withRegisters}
 use Rattle.model.specs.Row.{ownedRow, row, sameRecord}
 use Rattle.model.specs.Memory.{txWord}
 use Rattle.model.specs.Rights.{pageOf}
@@ -54,7 +54,7 @@ isFree Free = true
 isFree (Live d) = false
 
 unfoldable pub lowestFree : List Transaction → Handle
-lowestFree transactions = handle (first HANDLES (λ h. isFree (transactionAt transactions (handle h) .life)))
+lowestFree transactions = handle (first HANDLES (λ h. isFree (place transactions h .life)))
 
 -- this guest gets a handle
 unfoldable pub granted : Machine → VmId → Bool

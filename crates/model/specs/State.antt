@@ -99,6 +99,10 @@ recordAt records p = getD records (p .0) (record { owner = Nobody; access = reco
 unfoldable pub transactionAt : List Transaction → Handle → Transaction
 transactionAt transactions h = getD transactions (h .0) (record { life = Free; pages = [] })
 
+-- the transaction in handle h's place
+abbrev pub place : List Transaction → ℕ → Transaction
+place transactions h = transactionAt transactions (handle h)
+
 unfoldable pub pageAt : Transaction → ℕ → PageId
 pageAt t i = getD (t .pages) i (page 0)
 
@@ -117,32 +121,42 @@ isNormal Normal = true
 isNormal Fault = false
 isNormal Halted = false
 
--- The machine with one part replaced.
+-- The machine with parts replaced. Counts and mailboxes are never among them.
+
+abbrev pub changed :
+    Machine → List Registers → List InboxSlot → List PageRecord → List Transaction → VmId → Mode → Machine
+changed m registers inboxes records transactions current mode =
+    record {
+      n = m .n;
+      m = m .m;
+      registers = registers;
+      mailboxes = m .mailboxes;
+      inboxes = inboxes;
+      records = records;
+      transactions = transactions;
+      current = current;
+      mode = mode;
+    }
 
 abbrev pub withRegisters : Machine → List Registers → Machine
 withRegisters m registers =
-    record
-    { n = m .n; m = m .m; registers = registers; mailboxes = m .mailboxes; inboxes = m .inboxes; records = m .records; transactions = m .transactions; current = m .current; mode = m .mode }
+    changed m registers (m .inboxes) (m .records) (m .transactions) (m .current) (m .mode)
 
 abbrev pub withInboxes : Machine → List InboxSlot → Machine
 withInboxes m inboxes =
-    record
-    { n = m .n; m = m .m; registers = m .registers; mailboxes = m .mailboxes; inboxes = inboxes; records = m .records; transactions = m .transactions; current = m .current; mode = m .mode }
+    changed m (m .registers) inboxes (m .records) (m .transactions) (m .current) (m .mode)
 
 abbrev pub withPages : Machine → List PageRecord → List Transaction → Machine
 withPages m records transactions =
-    record
-    { n = m .n; m = m .m; registers = m .registers; mailboxes = m .mailboxes; inboxes = m .inboxes; records = records; transactions = transactions; current = m .current; mode = m .mode }
+    changed m (m .registers) (m .inboxes) records transactions (m .current) (m .mode)
 
 abbrev pub withCurrent : Machine → VmId → Machine
 withCurrent m current =
-    record
-    { n = m .n; m = m .m; registers = m .registers; mailboxes = m .mailboxes; inboxes = m .inboxes; records = m .records; transactions = m .transactions; current = current; mode = m .mode }
+    changed m (m .registers) (m .inboxes) (m .records) (m .transactions) current (m .mode)
 
 abbrev pub withMode : Machine → Mode → Machine
 withMode m mode =
-    record
-    { n = m .n; m = m .m; registers = m .registers; mailboxes = m .mailboxes; inboxes = m .inboxes; records = m .records; transactions = m .transactions; current = m .current; mode = mode }
+    changed m (m .registers) (m .inboxes) (m .records) (m .transactions) (m .current) mode
 
 -- What the current guest has.
 
