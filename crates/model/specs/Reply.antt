@@ -40,6 +40,10 @@ told files why caller = written (written files primary 0 why) primary 1 (caller 
 unfoldable pub woken : Machine → List Registers → Machine
 woken m files = withCurrent (withRegisters m (cond (isPrimary (m .current)) (m .registers) files)) primary
 
+-- guest 0 is current, and knows by which call and whose
+unfoldable pub handedOver : Machine → ℕ → Machine
+handedOver m why = woken m (told (m .registers) why (m .current))
+
 -- the word is the number of a guest other than the caller
 unfoldable pub isOther : Machine → ℕ → Bool
 isOther m g = ltb g (m .n) and not (sameVm (vm g) (m .current))

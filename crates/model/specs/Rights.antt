@@ -27,8 +27,10 @@ pub record Rights : Type 0 where
 
 unfoldable pub rights : Machine → Rights
 rights m =
-    record
-    { loads = right (m .records) (m .current) (ownMailbox m .tx); stores = right (m .records) (m .current) (ownMailbox m .rx) }
+    record {
+      loads = right (m .records) (m .current) (ownMailbox m .tx);
+      stores = right (m .records) (m .current) (ownMailbox m .rx);
+    }
 
 -- the page of an address
 abbrev pub pageOf : ℕ → PageId

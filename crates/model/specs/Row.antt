@@ -1,5 +1,6 @@
 -- The table of page records: the record that is due to a page by what it is used for. Every question about a kind, and
 -- who is a party of a transaction, is asked here and nowhere else.
+use Prim.Native.Nat.{ℕ}
 use mathlib.Core.Bool.{Bool, true, false, cond, not}
 use Rattle.isa.specs.Tests.{_and_}
 use Rattle.model.specs.declared.VmId.{VmId}
@@ -15,6 +16,12 @@ use Rattle.model.specs.VmSet.{none, only, with, sameSet}
 use Rattle.model.specs.State.{sameVm}
 
 -- Kinds and parties.
+
+-- the number of a kind in a descriptor
+unfoldable pub kindNumber : Kind → ℕ
+kindNumber Donate = 1
+kindNumber Lend = 2
+kindNumber Share = 3
 
 unfoldable pub shares : Kind → Bool
 shares Donate = false

@@ -9,7 +9,6 @@ use Rattle.model.specs.declared.VmId.{VmId}
 use Rattle.model.specs.declared.PageId.{PageId}
 use Rattle.model.specs.declared.Handle.{Handle}
 use Rattle.model.specs.declared.Kind.{Kind}
-use Rattle.model.specs.declared.Kind.the-variants.{Donate, Lend, Share}
 use Rattle.model.specs.declared.Deal.{Deal}
 use Rattle.model.specs.declared.Life.{Life}
 use Rattle.model.specs.declared.Life.the-variants.{Free, Live}
@@ -18,18 +17,13 @@ use Rattle.model.specs.declared.Machine.{Machine}
 use Rattle.model.specs.Constants.{PAGE, HANDLES, PLACES, INVALID, DENIED, NO-MEMORY}
 use Rattle.model.specs.Tests.{every, first, ascending, sets}
 use Rattle.model.specs.State.{State, state, vm, page, handle, recordAt, place, argument, written, withRegisters}
-use Rattle.model.specs.Row.{ownedRow, row, sameRecord}
+use Rattle.model.specs.Row.{kindNumber, ownedRow, row, sameRecord}
 use Rattle.model.specs.Memory.{txWord}
 use Rattle.model.specs.Rights.{pageOf}
 use Rattle.model.specs.Deeds.{settled}
 use Rattle.model.specs.Reply.{Verdict, passes, need, answer, succeeded, isOther}
 
 -- The descriptor in the TX page: its length, then kind and receiver, then the bases of the pages.
-
-unfoldable pub kindNumber : Kind → ℕ
-kindNumber Donate = 1
-kindNumber Lend = 2
-kindNumber Share = 3
 
 unfoldable pub sentKind : State → ℕ
 sentKind s = txWord s 1 % 65536
@@ -43,9 +37,12 @@ sentBase s i = txWord s (2 + i)
 unfoldable pub sentPage : State → ℕ → PageId
 sentPage s i = pageOf (sentBase s i)
 
--- how many pages a length in words leaves room for
+-- the length in words, as the caller names it, and how many pages that leaves room for
+unfoldable pub sentLength : State → ℕ
+sentLength s = argument (s .machine) 1
+
 unfoldable pub sentCount : State → ℕ
-sentCount s = argument (s .machine) 1 - 2
+sentCount s = sentLength s - 2
 
 -- Handles.
 
@@ -66,17 +63,19 @@ granted m g = ltb (lowestFree (m .transactions) .0) HANDLES
 unfoldable pub isBase : ℕ → ℕ → Bool
 isBase m x = eqb (x % PAGE) 0 and ltb (pageOf x .0) m
 
+-- a page that the caller owns, with access for itself alone, and exclusive
+unfoldable pub mayBeSent : Machine → PageId → Bool
+mayBeSent m p = sameRecord (recordAt (m .records) p) (ownedRow (m .current))
+
 unfoldable pub sendingVerdict : Kind → State → Verdict
 sendingVerdict kind s =
-    need (leb 3 (argument (s .machine) 1) and leb (argument (s .machine) 1) 10) INVALID
-    (need (eqb (txWord s 0) (argument (s .machine) 1)) INVALID
+    need (leb 3 (sentLength s) and leb (sentLength s) 10) INVALID
+    (need (eqb (txWord s 0) (sentLength s)) INVALID
     (need (eqb (sentKind s) (kindNumber kind)) INVALID
     (need (isOther (s .machine) (sentTo s)) INVALID
     (need (every (sentCount s) (λ i. isBase (s .machine .m) (sentBase s i))) INVALID
     (need (ascending (sentCount s) (sentBase s)) INVALID
-    (need
-    (every (sentCount s) (λ i. sameRecord (recordAt (s .machine .records) (sentPage s i)) (ownedRow (s .machine .current))))
-    DENIED
+    (need (every (sentCount s) (λ i. mayBeSent (s .machine) (sentPage s i))) DENIED
     (need (granted (s .machine) (s .machine .current)) NO-MEMORY passes)))))))
 
 -- The effect.

@@ -3,19 +3,16 @@ use mathlib.Core.Bool.{cond, not}
 use Rattle.model.specs.declared.Machine.{Machine}
 use Rattle.model.specs.Constants.{WAIT, NO-DATA}
 use Rattle.model.specs.State.{State, state, isPrimary, ownInbox, isEmpty}
-use Rattle.model.specs.Reply.{Verdict, passes, need, answer, succeeded, told, woken}
+use Rattle.model.specs.Reply.{Verdict, passes, need, answer, succeeded, handedOver}
 use Rattle.model.specs.Poll.{pollEffect}
 
 -- with no message waiting
 unfoldable pub waitVerdict : Machine → Verdict
 waitVerdict m = need (not (isPrimary (m .current))) NO-DATA passes
 
-unfoldable pub waited : Machine → Machine
-waited m = woken m (told (m .registers) WAIT (m .current))
-
 unfoldable pub waitEffect : State → State
 waitEffect s =
     cond
     (isEmpty (ownInbox (s .machine)))
-    (answer (waitVerdict (s .machine)) s (state (waited (succeeded (s .machine))) (s .memory)))
+    (answer (waitVerdict (s .machine)) s (state (handedOver (succeeded (s .machine)) WAIT) (s .memory)))
     (pollEffect s)
