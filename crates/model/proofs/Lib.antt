@@ -5,6 +5,7 @@ pub mod State
 pub mod Members
 pub mod Table
 pub mod Paste
+pub mod Links
 pub mod Sound
 pub mod Laws
 pub mod Computing
