@@ -2,7 +2,7 @@
 use Prim.Native.Nat.{ℕ, _+_, _*_, _%_, _≤_, _<_}
 use mathlib.Core.Path.{_≡_, refl, ap, _∙_}
 use mathlib.Core.Bool.{Bool, true, false, cond, true≢false, false≢true}
-use mathlib.Core.List.{List}
+use mathlib.Core.List.{List, _∷_}
 use native.Mathlib.Omega.{arith}
 use lib.ListN.{length, getD, length-set, length-drop}
 use lib.Dec.{ltb, eqb, eqb·suc-zero}
@@ -132,7 +132,11 @@ lowest-free-is-taken kind s shaped low e =
 
 pub blank-is-refused : BlankIsRefused
 unfolding checkOf blank sound countsInRange _and_
-blank-is-refused = record { without-memory = refl; with-memory = λ w memory. rw (eqb·suc-zero (length memory)) }
+blank-is-refused =
+    record {
+      without-memory = refl;
+      with-memory = λ w memory. cond-false (eqb (length (w ∷ memory)) 0) _ _ (eqb·suc-zero (length memory));
+    }
 
 -- What the check says where it answers 0.
 
