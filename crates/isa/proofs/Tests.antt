@@ -1,6 +1,6 @@
 -- The laws of joined tests: what each tells where it passes or fails, and how to make it pass.
 use mathlib.Core.Path.{_≡_, refl, sym, ap, _∙_}
-use mathlib.Core.Bool.{Bool, true, false, not, true≢false, false≢true}
+use mathlib.Core.Bool.{Bool, true, false, not, cond, true≢false, false≢true}
 use mathlib.Core.Logic.{_⊎_, inl, inr}
 use Rattle.isa.specs.Tests.{_and_, _or_}
 
@@ -92,3 +92,9 @@ pub or-nothing : (a : Bool) → a or false ≡ a
 unfolding _or_
 or-nothing true = refl
 or-nothing false = refl
+
+-- A choice.
+
+pub cond-false : {A : Type 0} (b : Bool) (x y : A) → b ≡ false → cond b x y ≡ y
+cond-false true x y e = absurd (true≢false e)
+cond-false false x y e = refl

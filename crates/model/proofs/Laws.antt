@@ -1,7 +1,7 @@
 -- The laws of `specs/Laws.antt`.
 use Prim.Native.Nat.{ℕ, _+_, _*_, _%_, _≤_, _<_}
 use mathlib.Core.Path.{_≡_, refl, ap, _∙_}
-use mathlib.Core.Bool.{Bool, true, false, cond, true≢false, false≢true}
+use mathlib.Core.Bool.{true, false}
 use mathlib.Core.List.{List, _∷_}
 use native.Mathlib.Omega.{arith}
 use lib.ListN.{length, getD, length-set, length-drop}
@@ -10,54 +10,27 @@ use borrow.Author.Tests.{le-ltb, ltb-true, leb-true, eqb-true}
 use Rattle.isa.specs.Tests.{_and_}
 use Rattle.model.specs.declared.Kind.{Kind}
 use Rattle.model.specs.declared.Transaction.{Transaction}
-use Rattle.model.specs.declared.Machine.{Machine}
-use Rattle.model.specs.declared.Answer.the-variants.{Done, WrongMemory, Unsound}
-use Rattle.model.specs.Constants.{PAGE, HANDLES, SUCCESS}
-use Rattle.model.specs.Answer.{answerNumber, answers, isDone}
+use Rattle.model.specs.declared.Answer.the-variants.{Done}
+use Rattle.model.specs.Constants.{HANDLES, SUCCESS}
 use Rattle.model.specs.State.{State, state, vm, handle, transactionAt, registersAt, register, withRegister, written, mailboxAt, ownMailbox, argument}
 use Rattle.model.specs.Blank.{blank}
-use Rattle.model.specs.Sound.{countsInRange, sound, Sound}
+use Rattle.model.specs.Sound.{countsInRange, sound}
 use Rattle.model.specs.Memory.{baseOf, txWords, txWord}
-use Rattle.model.specs.Reply.{Verdict, passes, refused, need, answer, succeeded, isOther}
+use Rattle.model.specs.Reply.{passes, succeeded, isOther}
 use Rattle.model.specs.Send.{sendVerdict, sendEffect, sendTo, sendBase, sendLength, copied}
 use Rattle.model.specs.Deeds.{settled}
 use Rattle.model.specs.Sending.{isFree, lowestFree, granted, sendingVerdict, sendingEffect, sent, withHandle, isBase, sentBase, sentPage}
 use Rattle.model.specs.HandleCall.{lookup}
 use Rattle.model.specs.Entries.{checkOf}
 use Rattle.model.specs.Laws.{NothingAboveLast, SentPagesAscend, LowestFreeIsTaken, SendCopiesItsLength, BlankIsRefused}
-use Rattle.isa.proofs.Tests.{and-left, and-right}
+use Rattle.isa.proofs.Tests.{cond-false, and-left, and-right}
 use Rattle.model.proofs.Tests.{every-at, ascending-lt, first-passes, before-first}
 use Rattle.model.proofs.State.{register-same, length-written, written-same, transaction-same, transaction-other}
 use Rattle.model.proofs.Paste.{paste-front, paste-inside, paste-behind}
-use Rattle.model.proofs.Sound.{sound-holds}
-
--- A chain of tests.
-
-not-refused : Verdict → Bool
-not-refused passes = true
-not-refused (refused code) = false
-
--- a chain that passes has passed its first test and the rest
-pub need-test : (t : Bool) (code : ℕ) (rest : Verdict) → need t code rest ≡ passes → t ≡ true
-unfolding need not-refused
-need-test true code rest e = refl
-need-test false code rest e = ap not-refused e
-
-pub need-rest : (t : Bool) (code : ℕ) (rest : Verdict) → need t code rest ≡ passes → rest ≡ passes
-unfolding need not-refused
-need-rest true code rest e = e
-need-rest false code rest e = absurd (false≢true (ap not-refused e))
-
--- a call whose verdict passes does what it does
-pub answer-passes : {v : Verdict} (before done : State) → v ≡ passes → answer v before done ≡ done
-unfolding answer
-answer-passes before done e = rw e
+use Rattle.model.proofs.Reply.{need-test, need-rest, answer-passes}
+use Rattle.model.proofs.Entries.{done-memory, done-sound}
 
 -- Handle words.
-
-cond-false : {A : Type 0} (b : Bool) (x y : A) → b ≡ false → cond b x y ≡ y
-cond-false true x y e = absurd (true≢false e)
-cond-false false x y e = refl
 
 pub nothing-above-last : NothingAboveLast
 unfolding lookup
@@ -137,23 +110,6 @@ blank-is-refused =
       without-memory = refl;
       with-memory = λ w memory. cond-false (eqb (length (w ∷ memory)) 0) _ _ (eqb·suc-zero (length memory));
     }
-
--- What the check says where it answers 0.
-
-done-parts : (right accepted : Bool) → isDone (cond right (cond accepted Done Unsound) WrongMemory) ≡ true
-    → (right ≡ true) × (accepted ≡ true)
-unfolding answerNumber answers
-done-parts true true e = (refl, refl)
-done-parts true false e = absurd (false≢true e)
-done-parts false accepted e = absurd (false≢true e)
-
-pub done-memory : (m : Machine) (memory : List ℕ) → checkOf m memory ≡ Done → length memory ≡ PAGE * m .m
-unfolding checkOf answers answerNumber
-done-memory m memory e = eqb-true _ _ (done-parts (eqb (length memory) (PAGE * m .m)) (sound m) (ap isDone e) .0)
-
-pub done-sound : (m : Machine) (memory : List ℕ) → checkOf m memory ≡ Done → Sound m
-unfolding checkOf answers answerNumber
-done-sound m memory e = sound-holds m (done-parts (eqb (length memory) (PAGE * m .m)) (sound m) (ap isDone e) .1)
 
 -- Send.
 

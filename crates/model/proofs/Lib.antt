@@ -7,6 +7,8 @@ pub mod Table
 pub mod Paste
 pub mod Links
 pub mod Sound
+pub mod Reply
+pub mod Entries
 pub mod Laws
 pub mod Computing
 pub mod PCases
