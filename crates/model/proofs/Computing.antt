@@ -28,8 +28,8 @@ use Rattle.model.specs.Relinquish.{relinquishEffect}
 use Rattle.model.specs.Reclaim.{reclaimEffect}
 use Rattle.model.specs.Call.{notSupported, chosen, callEffect}
 use Rattle.model.specs.Step.{withOwn, hvc, fault, halt, ended, stepEffect}
-use Rattle.model.specs.Entries.{checkOf, thenMode, actedBy, stepOf, callOf}
+use Rattle.model.specs.Entries.{judged, checkOf, thenMode, actedBy, stepOf, callOf}
 
 unfoldable pub entries-compute : Unit {0}
-unfolding blankRegisters _and_ _or_ opcodes opcodeAt fitsShape legal meaningOf decodeOf agree every some orNext first ascending sets sameVm samePage isPrimary registersAt register written mailboxAt inboxAt isEmpty lengthOf senderOf recordAt transactionAt pageAt countIn countOf isNormal ownRegisters ownMailbox ownInbox argument plus has only with sameSet shares donates sends receives holders mailboxRow freeRow row sameOwner sameRecord keeps isMailbox keeper holds holder dueIn due ifLive eachDeal eachPage ifFull eachMessage ifOwned countsInRange pageCountsInRange lengthsInRange apart mailboxesDiffer mailboxesBelow ownersBelow sendersBelow noOwnSender partiesDiffer partiesBelow pagesAscend pagesBelow pagesNoMailbox noDonationRetrieved noPageTwice recordsDue blankGuest guestsBlank pagesBlank placesBlank sound right rights access baseOf fetched loaded txWords txWord minus topped advanced gets ifAllowed perform execute guestStep need withError answer succeeded told woken handedOver isOther runVerdict runEffect yieldEffect pollVerdict noted polled pollEffect waitVerdict waitEffect sendTo sendLength sendBase sendVerdict notified delivered copied sendEffect recorded settled marked redealt retrieved relinquished reclaimed kindNumber sentKind sentTo sentBase sentPage sentLength sentCount isFree lowestFree granted isBase mayBeSent sendingVerdict sentDeal sentTransaction sent withHandle sendingEffect foundIn lookup inPlace handleVerdict applied ownFound handleEffect retrieveEffect relinquishEffect reclaimEffect notSupported chosen callEffect withOwn hvc fault halt ended stepEffect answerNumber answers checkOf thenMode actedBy stepOf callOf
+unfolding blankRegisters _and_ _or_ opcodes opcodeAt fitsShape legal meaningOf decodeOf agree every some orNext first ascending sets sameVm samePage isPrimary registersAt register written mailboxAt inboxAt isEmpty lengthOf senderOf recordAt transactionAt pageAt countIn countOf isNormal ownRegisters ownMailbox ownInbox argument plus has only with sameSet shares donates sends receives holders mailboxRow freeRow row sameOwner sameRecord keeps isMailbox keeper holds holder dueIn due ifLive eachDeal eachPage ifFull eachMessage ifOwned countsInRange pageCountsInRange lengthsInRange apart mailboxesDiffer mailboxesBelow ownersBelow sendersBelow noOwnSender partiesDiffer partiesBelow pagesAscend pagesBelow pagesNoMailbox noDonationRetrieved noPageTwice recordsDue blankGuest guestsBlank pagesBlank placesBlank sound right rights access baseOf fetched loaded txWords txWord minus topped advanced gets ifAllowed perform execute guestStep need withError answer succeeded told woken handedOver isOther runVerdict runEffect yieldEffect pollVerdict noted polled pollEffect waitVerdict waitEffect sendTo sendLength sendBase sendVerdict notified delivered copied sendEffect recorded settled marked redealt retrieved relinquished reclaimed kindNumber sentKind sentTo sentBase sentPage sentLength sentCount isFree lowestFree granted isBase mayBeSent sendingVerdict sentDeal sentTransaction sent withHandle sendingEffect foundIn lookup inPlace handleVerdict applied ownFound handleEffect retrieveEffect relinquishEffect reclaimEffect notSupported chosen callEffect withOwn hvc fault halt ended stepEffect answerNumber answers judged checkOf thenMode actedBy stepOf callOf
 entries-compute = tt

@@ -2,10 +2,10 @@
 use Prim.Native.Nat.{ℕ, _+_, _*_, _%_, _≤_, _<_}
 use mathlib.Core.Path.{_≡_, refl, ap, _∙_}
 use mathlib.Core.Bool.{true, false}
-use mathlib.Core.List.{List, _∷_}
+use mathlib.Core.List.{List}
 use native.Mathlib.Omega.{arith}
 use lib.ListN.{length, getD, length-set, length-drop}
-use lib.Dec.{ltb, eqb, eqb·suc-zero}
+use lib.Dec.{ltb, eqb·suc-zero}
 use borrow.Author.Tests.{le-ltb, ltb-true, leb-true, eqb-true}
 use Rattle.isa.specs.Tests.{_and_}
 use Rattle.model.specs.declared.Kind.{Kind}
@@ -21,7 +21,7 @@ use Rattle.model.specs.Send.{sendVerdict, sendEffect, sendTo, sendBase, 
 use Rattle.model.specs.Deeds.{settled}
 use Rattle.model.specs.Sending.{isFree, lowestFree, granted, sendingVerdict, sendingEffect, sent, withHandle, isBase, sentBase, sentPage}
 use Rattle.model.specs.HandleCall.{lookup}
-use Rattle.model.specs.Entries.{checkOf}
+use Rattle.model.specs.Entries.{judged, checkOf}
 use Rattle.model.specs.Laws.{NothingAboveLast, SentPagesAscend, LowestFreeIsTaken, SendCopiesItsLength, BlankIsRefused}
 use Rattle.isa.proofs.Tests.{cond-false, and-left, and-right}
 use Rattle.model.proofs.Tests.{every-at, ascending-lt, first-passes, before-first}
@@ -104,11 +104,11 @@ lowest-free-is-taken kind s shaped low e =
 -- The blank machine.
 
 pub blank-is-refused : BlankIsRefused
-unfolding checkOf blank sound countsInRange _and_
+unfolding judged checkOf blank sound countsInRange _and_
 blank-is-refused =
     record {
       without-memory = refl;
-      with-memory = λ w memory. cond-false (eqb (length (w ∷ memory)) 0) _ _ (eqb·suc-zero (length memory));
+      with-memory = λ w memory. rw (eqb·suc-zero (length memory));
     }
 
 -- Send.

@@ -1,6 +1,6 @@
 -- What each entry answers, for every machine, memory and argument, refused ones too.
 use Prim.Native.Nat.{ℕ, zero, suc, _+_, _*_}
-use mathlib.Core.Bool.{true, false, cond}
+use mathlib.Core.Bool.{Bool, true, false, cond}
 use mathlib.Core.List.{List, []}
 use lib.ListN.{length, take, drop}
 use lib.Dec.{ltb, eqb}
@@ -19,9 +19,14 @@ use Rattle.model.specs.Memory.{baseOf}
 use Rattle.model.specs.Call.{callEffect}
 use Rattle.model.specs.Step.{stepEffect}
 
--- check: memory of the right length, then a sound machine
+-- check: memory must fit, and then the machine be sound
+unfoldable pub judged : Bool → Bool → Answer
+judged false isSound = WrongMemory
+judged true false = Unsound
+judged true true = Done
+
 unfoldable pub checkOf : Machine → List ℕ → Answer
-checkOf m memory = cond (eqb (length memory) (PAGE * m .m)) (cond (sound m) Done Unsound) WrongMemory
+checkOf m memory = judged (eqb (length memory) (PAGE * m .m)) (sound m)
 
 -- step and call also want the mode normal, once the check has passed
 unfoldable pub thenMode : Answer → Mode → Answer
