@@ -17,7 +17,8 @@ done-parts : (fits isSound : Bool) → isDone (judged fits isSound) ≡ true →
 unfolding answerNumber answers judged
 done-parts true true e = (refl, refl)
 done-parts true false e = absurd (false≢true e)
-done-parts false isSound e = absurd (false≢true e)
+done-parts false true e = absurd (false≢true e)
+done-parts false false e = absurd (false≢true e)
 
 pub done-memory : (m : Machine) (memory : List ℕ) → checkOf m memory ≡ Done → length memory ≡ PAGE * m .m
 unfolding checkOf answerNumber answers
