@@ -1,7 +1,7 @@
 -- The promises of `specs/Promises.antt`.
 use Prim.Native.Nat.{ℕ}
 use mathlib.Core.Path.{_≡_, refl, ap, _∙_}
-use mathlib.Core.Bool.{Bool, true, false, cond}
+use mathlib.Core.Bool.{true}
 use mathlib.Core.Logic.{inl, inr}
 use native.Mathlib.Omega.{arith}
 use Rattle.isa.specs.declared.Instruction.{Instruction}
@@ -13,6 +13,7 @@ use Rattle.isa.specs.Word.{fieldsOf, wordOf, legal, Bounded}
 use Rattle.isa.specs.Decode.{meaningOf, decodeOf, decodeNumber}
 use Rattle.isa.specs.Encode.{partsOf, encodeOf, encodeNumber, encodeWord}
 use Rattle.isa.specs.Promises.{DecodeEncode, EncodeDecode, ListAgrees, DecodedBounded, EncodedBelow, DecodeNumbers, EncodeNumbers, RefusedWord}
+use Rattle.isa.proofs.Tests.{cond-left}
 use Rattle.isa.proofs.Laws.{legal-bounded, parts-means, fields-word, word-fields, word-bounded}
 
 pub list-agrees : ListAgrees
@@ -31,29 +32,15 @@ list-agrees (Br s) = refl
 list-agrees Hvc = refl
 list-agrees Halt = refl
 
--- an answer other than the refusal comes of a passed test
-passed-meaning :
-    (test : Bool) (j i : Instruction) →
-    cond test (decoded.Meaning j) decoded.NotInstruction ≡ decoded.Meaning i →
-    (test ≡ true) × (j ≡ i)
-passed-meaning true j i e = (refl, cc)
-passed-meaning false j i e = (cc, cc)
-
-passed-word :
-    (test : Bool) (v w : ℕ) →
-    cond test (encoded.Word v) encoded.NotInstruction ≡ encoded.Word w →
-    (test ≡ true) × (v ≡ w)
-passed-word true v w e = (refl, cc)
-passed-word false v w e = (cc, cc)
-
 decoded-parts :
     (w : ℕ) (i : Instruction) →
     decodeOf w ≡ decoded.Meaning i →
     (legal (fieldsOf w) ≡ true) × (partsOf i ≡ fieldsOf w)
 unfolding decodeOf meaningOf
 decoded-parts w i e =
-    let h = passed-meaning (legal (fieldsOf w)) (opcodeAt (fieldsOf w) .means) i e in
-    (h .0, rw (← h .1) (parts-means (fieldsOf w) (h .0)))
+    let h = cond-left (legal (fieldsOf w)) (decoded.Meaning (opcodeAt (fieldsOf w) .means)) _ _ (λ q. cc) e in
+    let same : opcodeAt (fieldsOf w) .means ≡ i = cc in
+    (h .0, rw (← same) (parts-means (fieldsOf w) (h .0)))
 
 encoded-parts :
     (i : Instruction) (w : ℕ) →
@@ -61,8 +48,8 @@ encoded-parts :
     Bounded (partsOf i) × (legal (partsOf i) ≡ true) × (wordOf (partsOf i) ≡ w)
 unfolding encodeOf
 encoded-parts i w e =
-    let h = passed-word (legal (partsOf i)) (wordOf (partsOf i)) w e in
-    (legal-bounded (partsOf i) (h .0), h .0, h .1)
+    let h = cond-left (legal (partsOf i)) (encoded.Word (wordOf (partsOf i))) _ _ (λ q. cc) e in
+    (legal-bounded (partsOf i) (h .0), h .0, cc)
 
 pub decode-encode : DecodeEncode
 unfolding decodeOf meaningOf

@@ -1,7 +1,9 @@
 -- The laws of joined tests: what each tells where it passes or fails, and how to make it pass.
+use Prim.Native.Nat.{ℕ}
 use mathlib.Core.Path.{_≡_, refl, sym, ap, _∙_}
 use mathlib.Core.Bool.{Bool, true, false, not, cond, true≢false, false≢true}
 use mathlib.Core.Logic.{_⊎_, inl, inr}
+use native.Mathlib.Omega.{arith}
 use Rattle.isa.specs.Tests.{_and_, _or_}
 
 -- A test does not both pass and fail, and fails if it cannot pass.
@@ -98,3 +100,12 @@ or-nothing false = refl
 pub cond-false : {A : Type 0} (b : Bool) (x y : A) → b ≡ false → cond b x y ≡ y
 cond-false true x y e = absurd (true≢false e)
 cond-false false x y e = refl
+
+-- a choice that is not its second side, since that would make 0 equal to 1, is its first
+pub cond-left :
+    {A : Type 0} (b : Bool) (x y z : A) →
+    (y ≡ z → _≡_ {A = ℕ} 0 1) →
+    cond b x y ≡ z →
+    (b ≡ true) × (x ≡ z)
+cond-left true x y z clash e = (refl, e)
+cond-left false x y z clash e = let never = clash e in absurd (omega arith)

@@ -12,7 +12,7 @@ use lib.Seq.{getD-set-same, getD-set-other}
 use lib.Dec.{ltb}
 use borrow.Author.Tests.{ltb-true, ltb-false, lt-ltb}
 use Rattle.isa.proofs.Tests.{and-intro, and-left, and-right, cannot-pass, not-both, or-else, or-false, or-left, or-right}
-use Rattle.model.specs.Tests.{agree, every, some, orNext, first, ascending, sets}
+use Rattle.model.specs.Tests.{agree, every, some, orNext, first, ascending, setEach}
 
 -- Agreement.
 
@@ -147,47 +147,47 @@ ascending-lt n f e i (suc j) l h =
 
 -- Values set at n places.
 
-pub length-sets : {A : Type 0} (n : ℕ) (place : ℕ → ℕ) (value : ℕ → A) (l : List A) → length (sets n place value l) ≡ length l
-unfolding sets
-length-sets zero place value l = refl
-length-sets (suc n) place value l = length-set (sets n place value l) _ _ ∙ length-sets n place value l
+pub length-setEach : {A : Type 0} (n : ℕ) (place : ℕ → ℕ) (value : ℕ → A) (l : List A) → length (setEach n place value l) ≡ length l
+unfolding setEach
+length-setEach zero place value l = refl
+length-setEach (suc n) place value l = length-set (setEach n place value l) _ _ ∙ length-setEach n place value l
 
 -- at none of the places
-pub sets-other : {A : Type 0} (n : ℕ) (place : ℕ → ℕ) (value : ℕ → A) (l : List A) (k : ℕ) (d : A)
-    → ((i : ℕ) → i < n → place i ≡ k → ⊥) → getD (sets n place value l) k d ≡ getD l k d
-unfolding sets
-sets-other zero place value l k d h = refl
-sets-other (suc n) place value l k d h =
-    getD-set-other (sets n place value l) (place n) k (value n) d (λ q. h n (omega arith) (sym q))
-    ∙ sets-other n place value l k d (λ i b. h i (omega arith))
+pub setEach-other : {A : Type 0} (n : ℕ) (place : ℕ → ℕ) (value : ℕ → A) (l : List A) (k : ℕ) (d : A)
+    → ((i : ℕ) → i < n → place i ≡ k → ⊥) → getD (setEach n place value l) k d ≡ getD l k d
+unfolding setEach
+setEach-other zero place value l k d h = refl
+setEach-other (suc n) place value l k d h =
+    getD-set-other (setEach n place value l) (place n) k (value n) d (λ q. h n (omega arith) (sym q))
+    ∙ setEach-other n place value l k d (λ i b. h i (omega arith))
 
 -- at the place k, where every value that is set there is v
-pub sets-at : {A : Type 0} (n : ℕ) (place : ℕ → ℕ) (value : ℕ → A) (l : List A) (k : ℕ) (d v : A)
+pub setEach-at : {A : Type 0} (n : ℕ) (place : ℕ → ℕ) (value : ℕ → A) (l : List A) (k : ℕ) (d v : A)
     → ((i : ℕ) → i < n → place i ≡ k → value i ≡ v)
     → (i : ℕ) → i < n → place i ≡ k → k < length l
-    → getD (sets n place value l) k d ≡ v
-unfolding sets
-sets-at zero place value l k d v h i b p fits = absurd (omega arith)
-sets-at (suc n) place value l k d v h i b p fits =
+    → getD (setEach n place value l) k d ≡ v
+unfolding setEach
+setEach-at zero place value l k d v h i b p fits = absurd (omega arith)
+setEach-at (suc n) place value l k d v h i b p fits =
     elim (ℕ-discrete (place n) k) [
       | yes q ↦
-          rw (← q) (getD-set-same (sets n place value l) (place n) (value n) d (omega (arith, length-sets n place value l)))
+          rw (← q) (getD-set-same (setEach n place value l) (place n) (value n) d (omega (arith, length-setEach n place value l)))
           ∙ h n (omega arith) q
       | no q ↦
-          getD-set-other (sets n place value l) (place n) k (value n) d (λ e. q (sym e))
+          getD-set-other (setEach n place value l) (place n) k (value n) d (λ e. q (sym e))
           ∙ elim (below-suc b) [
             | inl e ↦ absurd (q (rw (← e) p))
-            | inr lower ↦ sets-at n place value l k d v (λ j c. h j (omega arith)) i lower p fits
+            | inr lower ↦ setEach-at n place value l k d v (λ j c. h j (omega arith)) i lower p fits
           ]
     ]
 
 -- at one of the places, where all the values are v
-pub sets-same : {A : Type 0} (n : ℕ) (place : ℕ → ℕ) (v : A) (l : List A) (k : ℕ) (d : A)
+pub setEach-same : {A : Type 0} (n : ℕ) (place : ℕ → ℕ) (v : A) (l : List A) (k : ℕ) (d : A)
     → (i : ℕ) → i < n → place i ≡ k → k < length l
-    → getD (sets n place (λ j. v) l) k d ≡ v
-sets-same n place v l k d = sets-at n place (λ j. v) l k d v (λ j b p. refl)
+    → getD (setEach n place (λ j. v) l) k d ≡ v
+setEach-same n place v l k d = setEach-at n place (λ j. v) l k d v (λ j b p. refl)
 
 -- in the first n places, in order
-pub sets-in-order : {A : Type 0} (n : ℕ) (value : ℕ → A) (l : List A) (i : ℕ) (d : A)
-    → i < n → i < length l → getD (sets n (λ j. j) value l) i d ≡ value i
-sets-in-order n value l i d b fits = sets-at n (λ j. j) value l i d (value i) (λ j c p. ap value p) i b refl fits
+pub setEach-in-order : {A : Type 0} (n : ℕ) (value : ℕ → A) (l : List A) (i : ℕ) (d : A)
+    → i < n → i < length l → getD (setEach n (λ j. j) value l) i d ≡ value i
+setEach-in-order n value l i d b fits = setEach-at n (λ j. j) value l i d (value i) (λ j c p. ap value p) i b refl fits

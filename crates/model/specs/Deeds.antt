@@ -9,13 +9,13 @@ use Rattle.model.specs.declared.Life.the-variants.{Free, Live}
 use Rattle.model.specs.declared.Transaction.{Transaction}
 use Rattle.model.specs.declared.Machine.{Machine}
 use Rattle.model.specs.Constants.{PLACES}
-use Rattle.model.specs.Tests.{sets}
+use Rattle.model.specs.Tests.{setEach}
 use Rattle.model.specs.State.{page, transactionAt, pageAt, countOf, withPages}
 use Rattle.model.specs.Row.{donates, ownedRow, row}
 
 -- every page of the transaction gets the record
 unfoldable pub recorded : List PageRecord → Transaction → PageRecord → List PageRecord
-recorded records t new = sets (countOf t) (λ i. pageAt t i .0) (λ i. new) records
+recorded records t new = setEach (countOf t) (λ i. pageAt t i .0) (λ i. new) records
 
 -- handle h's place holds the transaction new, and the pages of t get the record due
 unfoldable pub settled : Machine → Handle → Transaction → Transaction → PageRecord → Machine

@@ -14,7 +14,7 @@ use Rattle.model.specs.declared.Life.the-variants.{Free, Live}
 use Rattle.model.specs.declared.Transaction.{Transaction}
 use Rattle.model.specs.Constants.{HANDLES}
 use Rattle.model.specs.Tests.{some, first}
-use Rattle.model.specs.State.{vm, handle, samePage, mailboxAt, transactionAt, place, pageAt, countOf}
+use Rattle.model.specs.State.{vm, handle, samePage, mailboxAt, transactionAt, pageAt, countOf}
 use Rattle.model.specs.Row.{mailboxRow, freeRow, row}
 
 -- p is one of these two mailbox pages
@@ -34,7 +34,7 @@ holds t p = some (countOf t) (λ i. samePage (pageAt t i) p)
 
 -- the handle of p's transaction, or 16, behind the last one, if it is in none
 unfoldable pub holder : List Transaction → PageId → Handle
-holder transactions p = handle (first HANDLES (λ h. holds (place transactions h) p))
+holder transactions p = handle (first HANDLES (λ h. holds (transactionAt transactions (handle h)) p))
 
 -- the row of the transaction, or of the page's owner where there is none
 unfoldable pub dueIn : Life → Owner → PageRecord

@@ -14,7 +14,7 @@ use Rattle.model.specs.declared.Found.the-variants.{Nothing, Live}
 use Rattle.model.specs.declared.Machine.{Machine}
 use Rattle.model.specs.Constants.{HANDLES, INVALID, DENIED, ABORTED}
 use Rattle.model.specs.Tests.{agree, every}
-use Rattle.model.specs.State.{State, state, handle, recordAt, transactionAt, place, pageAt, countOf, argument}
+use Rattle.model.specs.State.{State, state, handle, recordAt, transactionAt, pageAt, countOf, argument}
 use Rattle.model.specs.Row.{row, sameRecord}
 use Rattle.model.specs.Reply.{Verdict, passes, refused, need, answer, succeeded}
 
@@ -27,7 +27,7 @@ foundIn h (life.Live d) = Live h d
 -- what a handle word finds; a word above 15 finds nothing
 unfoldable pub lookup : List Transaction → ℕ → Found
 lookup transactions w =
-    cond (ltb w HANDLES) (foundIn (handle w) (place transactions w .life)) Nothing
+    cond (ltb w HANDLES) (foundIn (handle w) (transactionAt transactions (handle w) .life)) Nothing
 
 -- The tests: that the caller is the party which may, that the retrieved mark is as it must be, and that each page has
 -- its transaction's row.

@@ -10,7 +10,7 @@ use Rattle.model.specs.declared.Transaction.{Transaction}
 use Rattle.model.specs.declared.Found.the-variants.{Nothing}
 use Rattle.model.specs.declared.Answer.the-variants.{Done, WrongMemory, Unsound}
 use Rattle.model.specs.Constants.{GUESTS}
-use Rattle.model.specs.State.{State, registersAt, register, transactionAt, place}
+use Rattle.model.specs.State.{State, registersAt, register, transactionAt, handle}
 use Rattle.model.specs.Shaped.{Shaped}
 use Rattle.model.specs.Memory.{txWord}
 use Rattle.model.specs.Blank.{blank}
@@ -34,11 +34,11 @@ SentPagesAscend =
 pub record TakesLowestFree (kind : Kind) (s : State) (h : Handle) : Type 0 where
   pub is-handle : h .0 ≤ 15
   pub was-free : isFree (transactionAt (s .machine .transactions) h .life) ≡ true
-  pub lower-are-live : (k : ℕ) → k < h .0 → isFree (place (s .machine .transactions) k .life) ≡ false
+  pub lower-are-live : (k : ℕ) → k < h .0 → isFree (transactionAt (s .machine .transactions) (handle k) .life) ≡ false
   pub is-taken : transactionAt (sendingEffect kind s .machine .transactions) h ≡ sentTransaction kind s
   pub others-stay :
       (k : ℕ) → (k ≡ h .0 → ⊥)
-      → place (sendingEffect kind s .machine .transactions) k ≡ place (s .machine .transactions) k
+      → transactionAt (sendingEffect kind s .machine .transactions) (handle k) ≡ transactionAt (s .machine .transactions) (handle k)
   pub is-in-r2 : register (registersAt (sendingEffect kind s .machine .registers) (s .machine .current)) 2 ≡ h .0
 
 abbrev pub LowestFreeIsTaken : Type 0

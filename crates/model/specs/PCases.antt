@@ -3,7 +3,7 @@
 --
 -- The machine has three guests and ten pages: pages 0 to 2 are owned by guests 0 to 2, pages 3 to 8 are TX and RX of
 -- guests 0, 1 and 2, and page 9 is owned by guest 1. Who is current is set by hand before each call.
-use Prim.Native.Nat.{ℕ, _*_}
+use Prim.Native.Nat.{ℕ, _*_, _<_}
 use mathlib.Core.Path.{_≡_}
 use mathlib.Core.Bool.{Bool, true, false}
 use mathlib.Core.List.{List, [], _∷_}
@@ -23,12 +23,14 @@ use Rattle.model.specs.declared.Life.{Life}
 use Rattle.model.specs.declared.Life.the-variants.{Free, Live}
 use Rattle.model.specs.declared.Mode.the-variants.{Normal}
 use Rattle.model.specs.declared.Machine.{Machine}
-use Rattle.model.specs.State.{vm, page, handle, written, withRegisters, withCurrent, registersAt, register, recordAt, transactionAt}
+use Rattle.model.specs.State.{State, state, vm, page, handle, written, withRegisters, withCurrent, registersAt, register, recordAt, transactionAt}
 use Rattle.model.specs.Tests.{every}
 use Rattle.model.specs.Row.{pageRecord, sameRecord}
 use Rattle.model.specs.Deeds.{freed}
 use Rattle.model.specs.Blank.{blankRegisters}
 use Rattle.model.specs.Answer.{answerNumber}
+use Rattle.model.specs.Sending.{sentPage}
+use Rattle.model.specs.Laws.{TakesLowestFree, Copies}
 use Rattle.model.specs.Entries.{Acted, stepOf, callOf}
 
 -- The machine.
@@ -83,9 +85,20 @@ words x new memory = paste memory x new (lib.ListN.length new)
 unfoldable pub next : VmId → ℕ → ℕ → ℕ → Acted → Acted
 next g r0 r1 r2 before = callOf (turn g r0 r1 r2 (before .result .machine)) (before .memory)
 
--- guest 1 sends pages by the call r0 with the descriptor in its TX page, page 5
+-- guest 1 is about to send pages by the call r0, with the descriptor in its TX page, page 5
+unfoldable pub sending : ℕ → List ℕ → State
+sending r0 descriptor = state (turn (vm 1) r0 3 0 machine) (words (1024 * 5) descriptor (replicate (1024 * 10) 0))
+
+-- guest 1 is about to send guest 2 a message
+unfoldable pub messaging : ℕ → State
+messaging length = state (turn (vm 1) 0x8400006E 2 length machine) (replicate (1024 * 10) 0)
+
+-- the call that is about to be made
+unfoldable pub called : State → Acted
+called s = callOf (s .machine) (s .memory)
+
 unfoldable pub send : ℕ → List ℕ → Acted
-send r0 descriptor = callOf (turn (vm 1) r0 3 0 machine) (words (1024 * 5) descriptor (replicate (1024 * 10) 0))
+send r0 descriptor = called (sending r0 descriptor)
 
 -- one instruction of guest 0 at address 0, with R0 and R1
 unfoldable pub instruction : ℕ → ℕ → ℕ → Acted
@@ -125,8 +138,12 @@ from1to2 kind retrieved =
 
 -- The cases, each after those that it goes on from.
 
+-- P1, about to be called
+unfoldable pub sharing : State
+sharing = sending 0x84000073 (3 ∷ 0x00020003 ∷ 9216 ∷ [])
+
 unfoldable pub shared : Acted
-shared = send 0x84000073 (3 ∷ 0x00020003 ∷ 9216 ∷ [])
+shared = called sharing
 
 unfoldable pub shareRetrieved : Acted
 shareRetrieved = next (vm 2) 0x84000074 0 0 shared
@@ -147,7 +164,7 @@ unfoldable pub retrievedByZero : Acted
 retrievedByZero = next (vm 0) 0x84000074 0 0 shared
 
 unfoldable pub messageOfLength : ℕ → Acted
-messageOfLength length = callOf (turn (vm 1) 0x8400006E 2 length machine) (replicate (1024 * 10) 0)
+messageOfLength length = called (messaging length)
 
 pub record PCases : Type 0 where
   pub P1 : seenBy (vm 1) shared ≡ seen 0 0x84000061 0 (owned 1 0b010 false) (from1to2 Share false)
@@ -166,3 +183,9 @@ pub record PCases : Type 0 where
   pub P11 : seenBy (vm 0) (instruction 0x00001006 0xFFFFFFFF 1) ≡ seen 0 0 0 (owned 1 0b010 true) Free
   pub P12 : decodeOf 0x006C0001 ≡ Meaning (Movi 0 108)
   pub P12-none : decodeOf 0x00000801 ≡ NotInstruction
+
+-- The laws over the number have premises that can be met: these are the laws at P1 and at the last of P10.
+pub record LawsApply : Type 0 where
+  pub pages-ascend-at-P1 : (i j : ℕ) → i < j → j < 1 → sentPage sharing i .0 < sentPage sharing j .0
+  pub handle-0-is-taken-at-P1 : TakesLowestFree Share sharing (handle 0)
+  pub words-are-copied-at-P10 : Copies (messaging 1024)

@@ -15,8 +15,8 @@ use Rattle.model.specs.declared.Life.the-variants.{Free, Live}
 use Rattle.model.specs.declared.Transaction.{Transaction}
 use Rattle.model.specs.declared.Machine.{Machine}
 use Rattle.model.specs.Constants.{PAGE, HANDLES, PLACES, INVALID, DENIED, NO-MEMORY}
-use Rattle.model.specs.Tests.{every, first, ascending, sets}
-use Rattle.model.specs.State.{State, state, vm, page, handle, recordAt, place, argument, written, withRegisters}
+use Rattle.model.specs.Tests.{every, first, ascending, setEach}
+use Rattle.model.specs.State.{State, state, vm, page, handle, recordAt, argument, written, withRegisters, transactionAt}
 use Rattle.model.specs.Row.{kindNumber, ownedRow, row, sameRecord}
 use Rattle.model.specs.Memory.{txWord}
 use Rattle.model.specs.Rights.{pageOf}
@@ -51,7 +51,7 @@ isFree Free = true
 isFree (Live d) = false
 
 unfoldable pub lowestFree : List Transaction → Handle
-lowestFree transactions = handle (first HANDLES (λ h. isFree (place transactions h .life)))
+lowestFree transactions = handle (first HANDLES (λ h. isFree (transactionAt transactions (handle h) .life)))
 
 -- this guest gets a handle
 unfoldable pub granted : Machine → VmId → Bool
@@ -87,7 +87,7 @@ sentDeal kind s =
 
 unfoldable pub sentTransaction : Kind → State → Transaction
 sentTransaction kind s =
-    record { life = Live (sentDeal kind s); pages = sets (sentCount s) (λ i. i) (sentPage s) (replicate PLACES (page 0)) }
+    record { life = Live (sentDeal kind s); pages = setEach (sentCount s) (λ i. i) (sentPage s) (replicate PLACES (page 0)) }
 
 -- the lowest free handle gets the transaction, its pages their row, and the caller the handle
 unfoldable pub sent : Kind → State → Machine

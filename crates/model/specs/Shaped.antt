@@ -4,7 +4,7 @@ use mathlib.Core.Path.{_≡_}
 use lib.ListN.{length}
 use Rattle.model.specs.declared.Machine.{Machine}
 use Rattle.model.specs.Constants.{GUESTS, PAGES, HANDLES, PLACES}
-use Rattle.model.specs.State.{vm, registersAt, place}
+use Rattle.model.specs.State.{vm, registersAt, transactionAt, handle}
 
 pub record Shaped (m : Machine) : Type 0 where
   pub eight-files : length (m .registers) ≡ GUESTS
@@ -13,4 +13,4 @@ pub record Shaped (m : Machine) : Type 0 where
   pub eight-inboxes : length (m .inboxes) ≡ GUESTS
   pub sixty-four-records : length (m .records) ≡ PAGES
   pub sixteen-transactions : length (m .transactions) ≡ HANDLES
-  pub eight-places : (h : ℕ) → h < HANDLES → length (place (m .transactions) h .pages) ≡ PLACES
+  pub eight-places : (h : ℕ) → h < HANDLES → length (transactionAt (m .transactions) (handle h) .pages) ≡ PLACES

@@ -23,7 +23,7 @@ use Rattle.model.specs.declared.Transaction.{Transaction}
 use Rattle.model.specs.declared.Machine.{Machine}
 use Rattle.model.specs.Constants.{PAGE, GUESTS, PAGES, HANDLES, PLACES}
 use Rattle.model.specs.Tests.{every, ascending}
-use Rattle.model.specs.State.{vm, page, sameVm, samePage, registersAt, register, mailboxAt, inboxAt, isEmpty, recordAt, place, pageAt, countOf}
+use Rattle.model.specs.State.{vm, page, sameVm, samePage, registersAt, register, mailboxAt, inboxAt, isEmpty, recordAt, pageAt, countOf, transactionAt, handle}
 use Rattle.model.specs.Row.{donates, freeRow, sameRecord}
 use Rattle.model.specs.Due.{keeps, isMailbox, holds, due}
 
@@ -34,18 +34,18 @@ ifLive Free test = true
 ifLive (Live d) test = test d
 
 unfoldable pub eachDeal : List Transaction → (Deal → Bool) → Bool
-eachDeal transactions test = every HANDLES (λ h. ifLive (place transactions h .life) test)
+eachDeal transactions test = every HANDLES (λ h. ifLive (transactionAt transactions (handle h) .life) test)
 
 abbrev pub EachDeal : List Transaction → (Deal → Type 0) → Type 0
-EachDeal transactions Fact = (h : ℕ) (d : Deal) → h < HANDLES → place transactions h .life ≡ Live d → Fact d
+EachDeal transactions Fact = (h : ℕ) (d : Deal) → h < HANDLES → transactionAt transactions (handle h) .life ≡ Live d → Fact d
 
 unfoldable pub eachPage : List Transaction → (PageId → Bool) → Bool
 eachPage transactions test =
-    every HANDLES (λ h. every (countOf (place transactions h)) (λ i. test (pageAt (place transactions h) i)))
+    every HANDLES (λ h. every (countOf (transactionAt transactions (handle h))) (λ i. test (pageAt (transactionAt transactions (handle h)) i)))
 
 abbrev pub EachPage : List Transaction → (PageId → Type 0) → Type 0
 EachPage transactions Fact =
-    (h i : ℕ) → h < HANDLES → i < countOf (place transactions h) → Fact (pageAt (place transactions h) i)
+    (h i : ℕ) → h < HANDLES → i < countOf (transactionAt transactions (handle h)) → Fact (pageAt (transactionAt transactions (handle h)) i)
 
 unfoldable pub ifFull : Inbox → (ℕ → VmId → Bool) → Bool
 ifFull Empty test = true
@@ -144,12 +144,12 @@ PartiesBelow n transactions = EachDeal transactions (λ d. (d .sender .0 < n) ×
 
 unfoldable pub pagesAscend : List Transaction → Bool
 pagesAscend transactions =
-    every HANDLES (λ h. ascending (countOf (place transactions h)) (λ i. pageAt (place transactions h) i .0))
+    every HANDLES (λ h. ascending (countOf (transactionAt transactions (handle h))) (λ i. pageAt (transactionAt transactions (handle h)) i .0))
 
 abbrev pub PagesAscend : List Transaction → Type 0
 PagesAscend transactions =
-    (h i : ℕ) → h < HANDLES → suc i < countOf (place transactions h)
-    → pageAt (place transactions h) i .0 < pageAt (place transactions h) (suc i) .0
+    (h i : ℕ) → h < HANDLES → suc i < countOf (transactionAt transactions (handle h))
+    → pageAt (transactionAt transactions (handle h)) i .0 < pageAt (transactionAt transactions (handle h)) (suc i) .0
 
 unfoldable pub pagesBelow : ℕ → List Transaction → Bool
 pagesBelow m transactions = eachPage transactions (λ p. ltb (p .0) m)
@@ -175,14 +175,14 @@ unfoldable pub noPageTwice : List Transaction → Bool
 noPageTwice transactions =
     every HANDLES (λ h.
     every h (λ k.
-    every (countOf (place transactions h)) (λ i.
-    not (holds (place transactions k) (pageAt (place transactions h) i)))))
+    every (countOf (transactionAt transactions (handle h))) (λ i.
+    not (holds (transactionAt transactions (handle k)) (pageAt (transactionAt transactions (handle h)) i)))))
 
 abbrev pub NoPageTwice : List Transaction → Type 0
 NoPageTwice transactions =
     (h k : ℕ) (p : PageId) → h < HANDLES → k < HANDLES
-    → holds (place transactions h) p ≡ true
-    → holds (place transactions k) p ≡ true
+    → holds (transactionAt transactions (handle h)) p ≡ true
+    → holds (transactionAt transactions (handle k)) p ≡ true
     → h ≡ k
 
 -- Each record is the table's.
@@ -233,12 +233,12 @@ unfoldable pub placesBlank : List Transaction → Bool
 placesBlank transactions =
     every HANDLES (λ h.
     every PLACES (λ i.
-    ltb i (countOf (place transactions h)) or samePage (pageAt (place transactions h) i) (page 0)))
+    ltb i (countOf (transactionAt transactions (handle h))) or samePage (pageAt (transactionAt transactions (handle h)) i) (page 0)))
 
 abbrev pub PlacesBlank : List Transaction → Type 0
 PlacesBlank transactions =
-    (h i : ℕ) → h < HANDLES → i < PLACES → countOf (place transactions h) ≤ i
-    → pageAt (place transactions h) i ≡ page 0
+    (h i : ℕ) → h < HANDLES → i < PLACES → countOf (transactionAt transactions (handle h)) ≤ i
+    → pageAt (transactionAt transactions (handle h)) i ≡ page 0
 
 -- The whole, as a test and as a record of the facts.
 

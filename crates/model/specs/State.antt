@@ -99,10 +99,6 @@ recordAt records p = getD records (p .0) (record { owner = Nobody; access = reco
 unfoldable pub transactionAt : List Transaction → Handle → Transaction
 transactionAt transactions h = getD transactions (h .0) (record { life = Free; pages = [] })
 
--- the transaction in handle h's place
-abbrev pub place : List Transaction → ℕ → Transaction
-place transactions h = transactionAt transactions (handle h)
-
 unfoldable pub pageAt : Transaction → ℕ → PageId
 pageAt t i = getD (t .pages) i (page 0)
 

@@ -36,6 +36,6 @@ unfoldable pub ascending : ℕ → (ℕ → ℕ) → Bool
 ascending n f = every (n - 1) (λ i. ltb (f i) (f (suc i)))
 
 -- the list with, for each i below n, the value at i in the place at i; a later one wins
-unfoldable pub sets : {A : Type 0} → ℕ → (ℕ → ℕ) → (ℕ → A) → List A → List A
-sets zero place value l = l
-sets (suc n) place value l = set (sets n place value l) (place n) (value n)
+unfoldable pub setEach : {A : Type 0} → ℕ → (ℕ → ℕ) → (ℕ → A) → List A → List A
+setEach zero place value l = l
+setEach (suc n) place value l = set (setEach n place value l) (place n) (value n)

@@ -3,11 +3,14 @@
 //
 // Nothing here tests a range. A value of these types may be any machine at all; whether it is a sound one is for
 // `specs/Sound.antt` to say.
-// Numbers of guests, pages and handles are kept apart: none stands where another is due.
+
+// The number of a guest. Numbers of guests, pages and handles are kept apart: none stands where another is due.
 pub struct VmId(pub u8);
 
+// The number of a page.
 pub struct PageId(pub u8);
 
+// The number that a transaction is known by.
 pub struct Handle(pub u8);
 
 // A set of guests: bit g is set if guest g is in it.
@@ -37,6 +40,7 @@ pub struct InboxSlot {
     pub inbox: Inbox,
 }
 
+// Whose a page is. Lending and sharing leave the owner.
 pub enum Owner {
     Nobody,
     Guest(VmId),
@@ -65,6 +69,7 @@ pub struct Deal {
     pub count: u8,
 }
 
+// Whether a handle is in use, and for what.
 pub enum Life {
     Free,
     Live(Deal),
@@ -76,6 +81,7 @@ pub struct Transaction {
     pub pages: [PageId; 8],
 }
 
+// Whether the machine goes on. Only a normal one takes a step or a call.
 pub enum Mode {
     Normal,
     Fault,
