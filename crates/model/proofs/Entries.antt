@@ -6,12 +6,21 @@ use mathlib.Core.List.{List}
 use lib.ListN.{length}
 use borrow.Author.Tests.{eqb-true}
 use Rattle.model.specs.declared.Machine.{Machine}
-use Rattle.model.specs.declared.Answer.the-variants.{Done}
+use Rattle.model.specs.declared.Answer.{Answer}
+use Rattle.model.specs.declared.Answer.the-variants.{Done, WrongMemory, Unsound, Stopped, BrokenImage}
 use Rattle.model.specs.Constants.{PAGE}
 use Rattle.model.specs.Answer.{answerNumber, answers, isDone}
 use Rattle.model.specs.Sound.{Sound}
 use Rattle.model.specs.Entries.{judged, checkOf}
 use Rattle.model.proofs.Sound.{sound-holds}
+
+pub is-done : (answer : Answer) → isDone answer ≡ true → answer ≡ Done
+unfolding answerNumber answers
+is-done Done e = refl
+is-done WrongMemory e = absurd (false≢true e)
+is-done Unsound e = absurd (false≢true e)
+is-done Stopped e = absurd (false≢true e)
+is-done BrokenImage e = absurd (false≢true e)
 
 done-parts : (fits isSound : Bool) → isDone (judged fits isSound) ≡ true → (fits ≡ true) × (isSound ≡ true)
 unfolding answerNumber answers judged

@@ -12,7 +12,7 @@ use lib.Seq.{getD-set-same, getD-set-other}
 use lib.Dec.{ltb}
 use borrow.Author.Tests.{ltb-true, ltb-false, lt-ltb}
 use Rattle.isa.proofs.Tests.{and-intro, and-left, and-right, cannot-pass, not-both, or-else, or-false, or-left, or-right}
-use Rattle.model.specs.Tests.{agree, every, some, orNext, first, ascending, setEach}
+use Rattle.model.specs.Tests.{agree, every, some, orNext, first, ascending, setEach, listed}
 
 -- Agreement.
 
@@ -27,6 +27,12 @@ unfolding agree
 eq-agree {a = true} {b} p = sym p
 eq-agree {a = false} {b = true} p = p
 eq-agree {a = false} {b = false} p = refl
+
+-- tests of which each passes where the other does agree
+pub same-test : (a b : Bool) → (a ≡ true → b ≡ true) → (b ≡ true → a ≡ true) → a ≡ b
+same-test true b there back = sym (there refl)
+same-test false true there back = back refl
+same-test false false there back = refl
 
 -- Every number below n.
 
@@ -126,6 +132,12 @@ first-is n f k h p b =
       | no l ↦ omega arith
     ]
 
+-- where no number passes, the first is the bound
+pub none-first : (n : ℕ) (f : ℕ → Bool) → ((k : ℕ) → k < n → f k ≡ false) → first n f ≡ n
+none-first n f h =
+    let upper : first n f ≤ n = first-le n f in
+    elim (decLt (first n f) n) [ yes l ↦ absurd (not-both (first-passes n f l) (h _ l)) | no l ↦ omega arith ]
+
 -- Ascending numbers.
 
 pub ascending-at : (n : ℕ) (f : ℕ → ℕ) → ascending n f ≡ true → (i : ℕ) → suc i < n → f i < f (suc i)
@@ -191,3 +203,10 @@ setEach-same n place v l k d = setEach-at n place (λ j. v) l k d v (λ j b p. r
 pub setEach-in-order : {A : Type 0} (n : ℕ) (value : ℕ → A) (l : List A) (i : ℕ) (d : A)
     → i < n → i < length l → getD (setEach n (λ j. j) value l) i d ≡ value i
 setEach-in-order n value l i d b fits = setEach-at n (λ j. j) value l i d (value i) (λ j c p. ap value p) i b refl fits
+
+-- Values in order.
+
+pub length-listed : {A : Type 0} (n : ℕ) (f : ℕ → A) → length (listed n f) ≡ n
+unfolding listed
+length-listed zero f = refl
+length-listed (suc n) f = ap suc (length-listed n (λ i. f (suc i)))

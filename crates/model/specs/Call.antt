@@ -17,37 +17,37 @@ use Rattle.model.specs.Retrieve.{retrieveEffect}
 use Rattle.model.specs.Relinquish.{relinquishEffect}
 use Rattle.model.specs.Reclaim.{reclaimEffect}
 
--- a call: the number that chooses it, and what it does
-pub record Call : Type 0 where
+-- a choice by number: the number that chooses it, and what is chosen
+pub record Choice (A : Type 0) : Type 0 where
   pub number : ℕ
-  pub effect : State → State
+  pub value : A
 
-abbrev pub call : ℕ → (State → State) → Call
-call number effect = record { number = number; effect = effect }
+abbrev pub on : {A : Type 0} → ℕ → A → Choice A
+on number value = record { number = number; value = value }
 
-abbrev pub calls : List Call
+-- the value with this number, if it is one of the list
+unfoldable pub chosen : {A : Type 0} → List (Choice A) → A → ℕ → A
+chosen [] otherwise number = otherwise
+chosen (c ∷ rest) otherwise number = elim (eqb number (c .number)) [ true ↦ c .value | false ↦ chosen rest otherwise number ]
+
+abbrev pub calls : List (Choice (State → State))
 calls =
-    call RUN runEffect
-    ∷ call YIELD yieldEffect
-    ∷ call POLL pollEffect
-    ∷ call WAIT waitEffect
-    ∷ call SEND sendEffect
-    ∷ call DONATE (sendingEffect Donate)
-    ∷ call LEND (sendingEffect Lend)
-    ∷ call SHARE (sendingEffect Share)
-    ∷ call RETRIEVE retrieveEffect
-    ∷ call RELINQUISH relinquishEffect
-    ∷ call RECLAIM reclaimEffect
+    on RUN runEffect
+    ∷ on YIELD yieldEffect
+    ∷ on POLL pollEffect
+    ∷ on WAIT waitEffect
+    ∷ on SEND sendEffect
+    ∷ on DONATE (sendingEffect Donate)
+    ∷ on LEND (sendingEffect Lend)
+    ∷ on SHARE (sendingEffect Share)
+    ∷ on RETRIEVE retrieveEffect
+    ∷ on RELINQUISH relinquishEffect
+    ∷ on RECLAIM reclaimEffect
     ∷ []
 
 unfoldable pub notSupported : State → State
 notSupported s = answer (refused NOT-SUPPORTED) s s
 
--- the effect of the call with this number, if it is one of the list
-unfoldable pub chosen : List Call → ℕ → State → State
-chosen [] number = notSupported
-chosen (c ∷ rest) number = elim (eqb number (c .number)) [ true ↦ c .effect | false ↦ chosen rest number ]
-
 -- what the current guest's call does
 unfoldable pub callEffect : State → State
-callEffect s = chosen calls (argument (s .machine) 0) s
+callEffect s = chosen calls notSupported (argument (s .machine) 0) s

@@ -32,7 +32,7 @@ marked d retrieved =
 unfoldable pub redealt : Transaction → Deal → Transaction
 redealt t d = record { life = Live d; pages = t .pages }
 
--- Retrieve of a donation makes the receiver the owner and frees the handle; otherwise it sets the mark
+-- retrieving: the pages of a donation become the receiver's own, and its handle is done with; others are marked
 unfoldable pub retrieved : Machine → Handle → Deal → Machine
 retrieved m h d =
     settled m h
@@ -40,7 +40,7 @@ retrieved m h d =
     (transactionAt (m .transactions) h)
     (cond (donates (d .kind)) (ownedRow (d .receiver)) (row (marked d true)))
 
--- Relinquish clears the mark
+-- relinquishing: the mark goes
 unfoldable pub relinquished : Machine → Handle → Deal → Machine
 relinquished m h d =
     settled m h
@@ -48,6 +48,6 @@ relinquished m h d =
     (transactionAt (m .transactions) h)
     (row (marked d false))
 
--- Reclaim gives the sender its pages back and frees the handle
+-- reclaiming: the pages are the sender's own again, and the handle is done with
 unfoldable pub reclaimed : Machine → Handle → Deal → Machine
 reclaimed m h d = settled m h freed (transactionAt (m .transactions) h) (ownedRow (d .sender))

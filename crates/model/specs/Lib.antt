@@ -28,5 +28,15 @@ pub mod Reclaim
 pub mod Call
 pub mod Step
 pub mod Entries
+pub mod Act
+pub mod Kept
+pub mod Refusals
+pub mod RunSteps
+pub mod NoAborted
+pub mod Honest
+pub mod Frame
+pub mod Promise
 pub mod Laws
 pub mod PCases
+pub mod PromiseApplies
+pub mod PromiseVariants

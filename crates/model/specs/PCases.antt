@@ -13,6 +13,7 @@ use Rattle.isa.specs.declared.Instruction.the-variants.{Movi}
 use Rattle.isa.specs.declared.Decoded.the-variants.{Meaning, NotInstruction}
 use Rattle.isa.specs.Decode.{decodeOf}
 use Rattle.model.specs.declared.VmId.{VmId}
+use Rattle.model.specs.declared.Registers.{Registers}
 use Rattle.model.specs.declared.Mailbox.{Mailbox}
 use Rattle.model.specs.declared.Inbox.the-variants.{Empty}
 use Rattle.model.specs.declared.Owner.the-variants.{Nobody, Guest}
@@ -21,6 +22,7 @@ use Rattle.model.specs.declared.Kind.{Kind}
 use Rattle.model.specs.declared.Kind.the-variants.{Lend, Share}
 use Rattle.model.specs.declared.Life.{Life}
 use Rattle.model.specs.declared.Life.the-variants.{Free, Live}
+use Rattle.model.specs.declared.Transaction.{Transaction}
 use Rattle.model.specs.declared.Mode.the-variants.{Normal}
 use Rattle.model.specs.declared.Machine.{Machine}
 use Rattle.model.specs.State.{State, state, vm, page, handle, written, withRegisters, withCurrent, registersAt, register, recordAt, transactionAt}
@@ -32,6 +34,7 @@ use Rattle.model.specs.Answer.{answerNumber}
 use Rattle.model.specs.Sending.{sentPage}
 use Rattle.model.specs.Laws.{TakesLowestFree, Copies}
 use Rattle.model.specs.Entries.{Acted, stepOf, callOf}
+use Rattle.model.specs.Kept.{ownedPages}
 
 -- The machine.
 
@@ -45,12 +48,14 @@ owned owner access exclusive = pageRecord (Guest (vm owner)) (record { 0 = acces
 unfoldable pub ownerless : ℕ → Bool → PageRecord
 ownerless access exclusive = pageRecord Nobody (record { 0 = access }) exclusive
 
-unfoldable pub machine : Machine
-machine =
+-- three guests, each with a page of its own and its TX and RX page; the rest is given: the number of pages, the register
+-- files, the records from page 9 on, the handles and who is current
+unfoldable pub threeGuests : ℕ → List Registers → List PageRecord → List Transaction → VmId → Machine
+threeGuests m registers rest transactions current =
     record {
       n = 3;
-      m = 10;
-      registers = replicate 8 blankRegisters;
+      m = m;
+      registers = registers;
       mailboxes = box 3 4 ∷ box 5 6 ∷ box 7 8 ∷ replicate 5 (box 0 0);
       inboxes = replicate 8 (record { inbox = Empty });
       records =
@@ -63,12 +68,15 @@ machine =
           ∷ ownerless 0b010 true
           ∷ ownerless 0b100 true
           ∷ ownerless 0b100 true
-          ∷ owned 1 0b010 true
-          ∷ replicate 54 (ownerless 0 false);
-      transactions = replicate 16 freed;
-      current = vm 0;
+          ∷ rest;
+      transactions = transactions;
+      current = current;
       mode = Normal;
     }
+
+unfoldable pub machine : Machine
+machine =
+    threeGuests 10 (replicate 8 blankRegisters) (owned 1 0b010 true ∷ replicate 54 (ownerless 0 false)) (replicate 16 freed) (vm 0)
 
 -- Acts.
 
@@ -189,3 +197,8 @@ pub record LawsApply : Type 0 where
   pub pages-ascend-at-P1 : (i j : ℕ) → i < j → j < 1 → sentPage sharing i .0 < sentPage sharing j .0
   pub handle-0-is-taken-at-P1 : TakesLowestFree Share sharing (handle 0)
   pub words-are-copied-at-P10 : Copies (messaging 1024)
+
+-- Of its ten pages four have an owner, and after P6, where a page has a new one, still four.
+pub record OwnedPages : Type 0 where
+  pub at-first : ownedPages machine ≡ 4
+  pub after-P6 : ownedPages (donationRetrieved .result .machine) ≡ 4

@@ -62,7 +62,7 @@ unfoldable pub ifOwned : Owner → (VmId → Bool) → Bool
 ifOwned Nobody test = true
 ifOwned (Guest g) test = test g
 
--- Counts are in range: guests, pages, the pages of a transaction, the words of a message.
+-- The four counts: guests, pages, the pages of a transaction, the words of a message.
 
 unfoldable pub countsInRange : ℕ → ℕ → Bool
 countsInRange n m = leb 2 n and leb n GUESTS and leb (2 * n) m and leb m PAGES
@@ -107,7 +107,8 @@ mailboxesBelow n m boxes =
 abbrev pub MailboxesBelow : ℕ → ℕ → List Mailbox → Type 0
 MailboxesBelow n m boxes = (g : ℕ) → g < n → (mailboxAt boxes (vm g) .tx .0 < m) × (mailboxAt boxes (vm g) .rx .0 < m)
 
--- The current guest, each owner and each sender of a message are below n; no guest is its own sender.
+-- Guest numbers, but for those of transactions: whoever is current, owns a page or wrote a message is a guest, and nobody
+-- writes to itself.
 
 unfoldable pub ownersBelow : ℕ → ℕ → List PageRecord → Bool
 ownersBelow n m records = every m (λ p. ifOwned (recordAt records (page p) .owner) (λ g. ltb (g .0) n))
@@ -127,8 +128,8 @@ noOwnSender n inboxes = eachMessage n inboxes (λ g length sender. not (sameVm s
 abbrev pub NoOwnSender : ℕ → List InboxSlot → Type 0
 NoOwnSender n inboxes = EachMessage n inboxes (λ g length sender. sender ≡ g → ⊥)
 
--- In each transaction sender and receiver differ and are below n; its pages strictly ascend, are below m and are no
--- mailbox pages.
+-- Transactions one by one: two parties, both guests; pages in rising order, each a page of the machine and nobody's
+-- mailbox.
 
 unfoldable pub partiesDiffer : List Transaction → Bool
 partiesDiffer transactions = eachDeal transactions (λ d. not (sameVm (d .sender) (d .receiver)))
@@ -163,7 +164,7 @@ pagesNoMailbox n boxes transactions = eachPage transactions (λ p. not (isMailbo
 abbrev pub PagesNoMailbox : ℕ → List Mailbox → List Transaction → Type 0
 PagesNoMailbox n boxes transactions = EachPage transactions (λ p. isMailbox n boxes p ≡ false)
 
--- No donation is retrieved; no page is in two transactions.
+-- Transactions by kind, and against each other: a donation is gone once it is retrieved; a page is in one at most.
 
 unfoldable pub noDonationRetrieved : List Transaction → Bool
 noDonationRetrieved transactions = eachDeal transactions (λ d. not (donates (d .kind) and d .retrieved))

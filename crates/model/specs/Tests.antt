@@ -1,7 +1,7 @@
 -- Tests and changes over numbers: what the definitions of the machine count with.
-use Prim.Native.Nat.{ℕ, zero, suc, _-_}
+use Prim.Native.Nat.{ℕ, zero, suc, _+_, _-_}
 use mathlib.Core.Bool.{Bool, true, false, cond}
-use mathlib.Core.List.{List}
+use mathlib.Core.List.{List, [], _∷_}
 use lib.ListN.{set}
 use lib.Dec.{ltb}
 use Rattle.isa.specs.Tests.{_and_, _or_}
@@ -22,6 +22,11 @@ unfoldable pub some : ℕ → (ℕ → Bool) → Bool
 some zero f = false
 some (suc n) f = some n f or f n
 
+-- at how many numbers below n the test passes
+unfoldable pub counted : ℕ → (ℕ → Bool) → ℕ
+counted zero f = 0
+counted (suc n) f = counted n f + cond (f n) 1 0
+
 -- what was found below n; else n, if the test passes there; else the number behind it
 unfoldable pub orNext : ℕ → ℕ → Bool → ℕ
 orNext found n passes = cond (ltb found n) found (cond passes n (suc n))
@@ -39,3 +44,8 @@ ascending n f = every (n - 1) (λ i. ltb (f i) (f (suc i)))
 unfoldable pub setEach : {A : Type 0} → ℕ → (ℕ → ℕ) → (ℕ → A) → List A → List A
 setEach zero place value l = l
 setEach (suc n) place value l = set (setEach n place value l) (place n) (value n)
+
+-- the values at the numbers below n, in order
+unfoldable pub listed : {A : Type 0} → ℕ → (ℕ → A) → List A
+listed zero f = []
+listed (suc n) f = f 0 ∷ listed n (λ i. f (suc i))
