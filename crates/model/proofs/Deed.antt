@@ -7,7 +7,6 @@ use mathlib.Core.List.{List}
 use mathlib.Core.Logic.{inl, inr}
 use native.Mathlib.Omega.{arith}
 use lib.ListN.{length, set}
-use lib.Seq.{getD-set-same}
 use borrow.Author.Tests.{eqb-false}
 use Rattle.isa.specs.Tests.{_and_}
 use Rattle.model.specs.declared.VmId.{VmId}
@@ -47,7 +46,7 @@ use Rattle.model.specs.Entries.{checkOf}
 use Rattle.model.specs.Honest.{SendsMessage}
 use Rattle.isa.proofs.Tests.{not-both, and-false, or-either, or-left, or-right}
 use Rattle.model.proofs.Tests.{at-some, same-test, length-listed}
-use Rattle.model.proofs.State.{written-other}
+use Rattle.model.proofs.State.{file-same, Sized, shaped-sized, written-sized, written-at, written-beside, written-other}
 use Rattle.model.proofs.Same.{samePage-true, eq-samePage}
 use Rattle.model.proofs.Due.{held-at}
 use Rattle.model.proofs.Send.{message-passed, other-pages-stay}
@@ -57,7 +56,7 @@ use Rattle.model.proofs.Calls.{call-case}
 use Rattle.model.proofs.Steps.{step-case}
 use Rattle.model.proofs.Acts.{effectOf, after-refused, after-done, done-accepted}
 use Rattle.model.proofs.Parts.{Good, own-eight, own-keeps}
-use Rattle.model.proofs.Events.{Sized, shaped-sized, written-sized, written-at, written-beside, told-called, same-call, not-successful, successful, silent, told-sent, idle, told-other, told-stored}
+use Rattle.model.proofs.Events.{told-called, same-call, not-successful, successful, silent, told-sent, idle, told-other, told-stored}
 use Rattle.model.proofs.Cases.{Silent, ownHandle, OnHandle, CallCase, was-refused, did-run, did-hand-over, did-poll, did-send, did-send-pages, did-retrieve, did-relinquish, did-reclaim, sendingNumber}
 use Rattle.model.proofs.Cases.{StepCase, did-move, did-store, did-call, did-fault, did-halt}
 
@@ -332,8 +331,8 @@ idle-deed a s mode here incomplete =
 -- the arguments of a call do not depend on the caller's pc
 advanced-arguments : (m : Machine) → m .current .0 < length (m .registers) → (i : ℕ)
     → argument (withOwn m (advanced (ownRegisters m))) i ≡ argument m i
-unfolding argument ownRegisters registersAt withOwn advanced register
-advanced-arguments m b i = rw (getD-set-same (m .registers) (m .current .0) (advanced (ownRegisters m)) _ b)
+unfolding argument ownRegisters withOwn advanced register
+advanced-arguments m b i = rw (file-same (m .registers) (m .current) (advanced (ownRegisters m)) b)
 
 module _ (s : State) (good : Good (s .machine)) (whole : length (s .memory) ≡ PAGE * s .machine .m)
     (done : isDone (entryOf step s .result .answer) ≡ true) (normal : isNormal (s .machine .mode) ≡ true) where

@@ -1,10 +1,8 @@
 -- The events of calls and of acts that do nothing, each read off the state before and after.
-use Prim.Native.Nat.{ℕ, _<_}
+use Prim.Native.Nat.{ℕ}
 use mathlib.Core.Path.{_≡_, refl, sym, ap, _∙_}
 use mathlib.Core.Bool.{Bool, true, false}
 use mathlib.Core.List.{List, []}
-use native.Mathlib.Omega.{arith}
-use lib.ListN.{length, length-set}
 use lib.Dec.{eqb}
 use borrow.Author.Tests.{eqb-true, eq-eqb}
 use Rattle.isa.specs.Tests.{_and_}
@@ -13,46 +11,16 @@ use Rattle.model.specs.declared.Handle.{Handle}
 use Rattle.model.specs.declared.Registers.{Registers}
 use Rattle.model.specs.declared.Kind.{Kind}
 use Rattle.model.specs.declared.Kind.the-variants.{Donate, Lend, Share}
-use Rattle.model.specs.declared.Machine.{Machine}
-use Rattle.model.specs.Constants.{GUESTS, SUCCESS}
+use Rattle.model.specs.Constants.{SUCCESS}
 use Rattle.model.specs.Answer.{isDone}
-use Rattle.model.specs.State.{State, state, registersAt, register, written, withRegisters, argument, ownRegisters, ownMailbox, isNormal}
-use Rattle.model.specs.Shaped.{Shaped}
+use Rattle.model.specs.State.{State, state, registersAt, register, withRegisters, argument, ownRegisters, ownMailbox, isNormal}
 use Rattle.model.specs.Memory.{txWords, txWord}
 use Rattle.model.specs.Sending.{sentTo, sentBase, sentPage, sentLength, sentCount}
 use Rattle.model.specs.Call.{chosen}
 use Rattle.model.specs.Act.{Act, after, entryOf, Event, Quiet, Stored, Retrieved, Relinquished, Reclaimed, Aim, other, storing, calling, aim, ifSo, storeEvent, callersIn, sentEvent, handleEvent, tellings, noEvent, callEvent, eventOfAim, eventOf}
 use Rattle.isa.proofs.Tests.{and-intro}
-use Rattle.model.proofs.State.{register-same, register-other, length-written, written-same}
 use Rattle.model.proofs.Cases.{sendingNumber, Silent}
 use Rattle.model.proofs.Calls.{chosen-first}
-
--- Guest g has a register file, of eight registers.
-
-pub record Sized (files : List Registers) (g : VmId) : Type 0 where
-  pub is-file : g .0 < length files
-  pub eight : length (registersAt files g .r) ≡ 8
-
-pub shaped-sized : (m : Machine) (g : VmId) → Shaped m → g .0 < GUESTS → Sized (m .registers) g
-shaped-sized m g shaped b =
-    record { is-file = omega (arith, shaped .eight-files); eight = shaped .eight-registers (g .0) b }
-
-pub written-sized : {files : List Registers} {g : VmId} (i v : ℕ) → Sized files g → Sized (written files g i v) g
-written-sized {files} {g} i v c =
-    record {
-      is-file = omega (arith, length-written files g i v, c .is-file);
-      eight = rw (written-same files g i v (c .is-file), length-set (registersAt files g .r) i v) (c .eight);
-    }
-
-pub written-at : {files : List Registers} {g : VmId} (i v : ℕ) → Sized files g → i < 8
-    → register (registersAt (written files g i v) g) i ≡ v
-written-at {files} {g} i v c b =
-    rw (written-same files g i v (c .is-file)) (register-same (registersAt files g) i v (omega (arith, c .eight)))
-
-pub written-beside : {files : List Registers} {g : VmId} (i j v : ℕ) → Sized files g → (j ≡ i → ⊥)
-    → register (registersAt (written files g i v) g) j ≡ register (registersAt files g) j
-written-beside {files} {g} i j v c b =
-    rw (written-same files g i v (c .is-file)) (register-other (registersAt files g) i j v b)
 
 -- Calls.
 

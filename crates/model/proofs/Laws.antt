@@ -2,13 +2,13 @@
 use Prim.Native.Nat.{_%_, _<_}
 use mathlib.Core.Path.{_≡_, refl, ap, _∙_}
 use native.Mathlib.Omega.{arith}
-use lib.ListN.{length, length-set}
+use lib.ListN.{length}
 use lib.Dec.{ltb, eqb·suc-zero}
 use borrow.Author.Tests.{le-ltb}
 use Rattle.isa.specs.Tests.{_and_}
 use Rattle.model.specs.declared.Kind.{Kind}
 use Rattle.model.specs.Constants.{HANDLES, SUCCESS}
-use Rattle.model.specs.State.{State, state, handle, transactionAt, registersAt, register, withRegister, written}
+use Rattle.model.specs.State.{State, state, handle, transactionAt, registersAt, register}
 use Rattle.model.specs.Blank.{blank}
 use Rattle.model.specs.Sound.{countsInRange, sound}
 use Rattle.model.specs.Reply.{passes, succeeded}
@@ -19,7 +19,7 @@ use Rattle.model.specs.Entries.{judged, checkOf}
 use Rattle.model.specs.Laws.{NothingAboveLast, SentPagesAscend, LowestFreeIsTaken, SendCopiesItsLength, BlankIsRefused}
 use Rattle.isa.proofs.Tests.{cond-false}
 use Rattle.model.proofs.Tests.{ascending-lt}
-use Rattle.model.proofs.State.{register-same, length-written, written-same, transaction-same, transaction-other}
+use Rattle.model.proofs.State.{shaped-sized, written-sized, written-at, transaction-same, transaction-other}
 use Rattle.model.proofs.Reply.{answer-passes}
 use Rattle.model.proofs.Entries.{done-memory, done-sound}
 use Rattle.model.proofs.Send.{copies}
@@ -54,10 +54,8 @@ unfolding sent settled withHandle succeeded
 lowest-free-is-taken kind s shaped low e =
     let h = lowestFree (s .machine .transactions) in
     let g = s .machine .current in
-    let files = s .machine .registers in
     let below : h .0 < 16 = passed kind s e .is-handle in
     let done = sending-done kind s e in
-    let r2-fits : 2 < length (registersAt files g .r) = omega (arith, shaped .eight-registers (g .0) low) in
     record {
       is-handle = omega arith;
       was-free = free-at-lowest (s .machine .transactions) below;
@@ -70,11 +68,7 @@ lowest-free-is-taken kind s shaped low e =
           ∙ transaction-other (s .machine .transactions) h (handle k) _ other;
       is-in-r2 =
           ap (λ (t : State). register (registersAt (t .machine .registers) g) 2) done
-          ∙ rw (
-            written-same (written files g 0 SUCCESS) g 2 (h .0) (omega (arith, shaped .eight-files, length-written files g 0 SUCCESS)),
-            written-same files g 0 SUCCESS (omega (arith, shaped .eight-files)),
-          )
-          (register-same (withRegister (registersAt files g) 0 SUCCESS) 2 (h .0) (simp length-set r2-fits));
+          ∙ written-at 2 (h .0) (written-sized 0 SUCCESS (shaped-sized (s .machine) g shaped low)) (omega arith);
     }
 
 -- The blank machine.

@@ -1,12 +1,11 @@
 -- A sound machine of the code's shape stays one when its registers, its inboxes, the current guest or the mode change.
 use Prim.Native.Nat.{ℕ, _≤_, _<_}
-use mathlib.Core.Path.{_≡_, refl, sym, ap, _∙_}
+use mathlib.Core.Path.{_≡_, refl, sym, _∙_}
 use mathlib.Core.Bool.{Bool, true, false, cond, false≢true}
 use mathlib.Core.List.{List}
 use native.Mathlib.Decide.{ℕ-discrete}
 use native.Mathlib.Omega.{arith}
 use lib.ListN.{length, set, length-set}
-use lib.Seq.{getD-set-same, getD-set-other}
 use Rattle.model.specs.declared.VmId.{VmId}
 use Rattle.model.specs.declared.Handle.{Handle}
 use Rattle.model.specs.declared.Registers.{Registers}
@@ -24,29 +23,12 @@ use Rattle.model.specs.Poll.{noted, polled}
 use Rattle.model.specs.Send.{sendTo, sendLength, sendVerdict, notified, delivered}
 use Rattle.model.specs.Sending.{withHandle}
 use Rattle.model.specs.Step.{withOwn}
+use Rattle.model.proofs.State.{file-same, file-other, inbox-same, inbox-other}
 use Rattle.model.proofs.Send.{message-passed}
 
 -- sound, and of the code's shape
 abbrev pub Good : Machine → Type 0
 Good m = Shaped m × Sound m
-
--- Files and inboxes with one of them replaced.
-
-file-same : (files : List Registers) (g : VmId) (file : Registers) → g .0 < length files → registersAt (set files (g .0) file) g ≡ file
-unfolding registersAt
-file-same files g file h = getD-set-same files (g .0) file _ h
-
-file-other : (files : List Registers) (g k : VmId) (file : Registers) → (k .0 ≡ g .0 → ⊥) → registersAt (set files (g .0) file) k ≡ registersAt files k
-unfolding registersAt
-file-other files g k file h = getD-set-other files (g .0) (k .0) file _ h
-
-inbox-same : (slots : List InboxSlot) (g : VmId) (inbox : Inbox) → g .0 < length slots → inboxAt (withInbox slots g inbox) g ≡ inbox
-unfolding inboxAt
-inbox-same slots g inbox h = ap (λ (slot : InboxSlot). slot .inbox) (getD-set-same slots (g .0) _ _ h)
-
-inbox-other : (slots : List InboxSlot) (g k : VmId) (inbox : Inbox) → (k .0 ≡ g .0 → ⊥) → inboxAt (withInbox slots g inbox) k ≡ inboxAt slots k
-unfolding inboxAt
-inbox-other slots g k inbox h = ap (λ (slot : InboxSlot). slot .inbox) (getD-set-other slots (g .0) (k .0) _ _ h)
 
 -- The one law: what the new parts must be.
 

@@ -11,7 +11,7 @@ use lib.ListN.{length, getD, length-set}
 use lib.Seq.{getD-set-same, getD-set-other}
 use lib.Dec.{ltb}
 use borrow.Author.Tests.{ltb-true, ltb-false, lt-ltb}
-use Rattle.isa.proofs.Tests.{and-intro, and-left, and-right, cannot-pass, not-both, or-else, or-false, or-left, or-right}
+use Rattle.isa.proofs.Tests.{and-intro, and-left, and-right, not-both, or-else, or-left, or-right}
 use Rattle.model.specs.Tests.{agree, every, some, orNext, first, ascending, setEach, listed}
 
 -- Agreement.
@@ -69,14 +69,6 @@ some-at (suc n) f e = go (some-at n f) (some n f) refl
     go lower true q = let found = lower q in (found .0, omega (arith, found .1), found .2)
     go lower false q = (n, omega arith, or-else _ _ e q)
 
-pub some-none : (n : ℕ) (f : ℕ → Bool) → some n f ≡ false → (k : ℕ) → k < n → f k ≡ false
-some-none n f e k h = cannot-pass (λ p. not-both (at-some n f k h p) e)
-
-pub none-some : (n : ℕ) (f : ℕ → Bool) → ((k : ℕ) → k < n → f k ≡ false) → some n f ≡ false
-unfolding some
-none-some zero f h = refl
-none-some (suc n) f h = or-false (none-some n f (λ k l. h k (omega arith))) (h n (omega arith))
-
 -- The first number below n.
 
 -- r is what `first n f` has to be
@@ -107,7 +99,7 @@ is-first zero f =
     record { within = omega arith; passes = λ h. absurd (omega arith); before = λ k h. absurd (omega arith) }
 is-first (suc n) f = first-next n f (first n f) (is-first n f)
 
-pub first-le : (n : ℕ) (f : ℕ → Bool) → first n f ≤ n
+first-le : (n : ℕ) (f : ℕ → Bool) → first n f ≤ n
 first-le n f = is-first n f .within
 
 pub first-passes : (n : ℕ) (f : ℕ → Bool) → first n f < n → f (first n f) ≡ true
@@ -119,10 +111,6 @@ before-first n f = is-first n f .before
 -- no number that passes is before the first
 pub passes-first : (n : ℕ) (f : ℕ → Bool) (k : ℕ) → f k ≡ true → first n f ≤ k
 passes-first n f k p = elim (decLt k (first n f)) [ yes l ↦ absurd (not-both p (before-first n f k l)) | no l ↦ omega arith ]
-
-pub some-first : (n : ℕ) (f : ℕ → Bool) → some n f ≡ true → first n f < n
-some-first n f e =
-    let found = some-at n f e in omega (arith, found .1, passes-first n f (found .0) (found .2))
 
 pub first-is : (n : ℕ) (f : ℕ → Bool) (k : ℕ) → k < n → f k ≡ true → ((j : ℕ) → j < k → f j ≡ false) → first n f ≡ k
 first-is n f k h p b =
