@@ -7,7 +7,7 @@ use super::code::{trial_word, word_of, Code};
 use super::ending::{fault_act, Ending};
 use super::held::{hold_act, Between, Hold};
 use super::plain::{call_loop, fresh, plain_act, show, spin};
-use super::plan::{empty_others, good_handles, others, some_pages, CallPlan, Sending};
+use super::plan::{empty_others, good_handles, handles, others, some_pages, CallPlan, Sending};
 use super::random::Random;
 use super::stage::Stage;
 use super::standing::{may, pages_standing, Standing, Use};
@@ -299,11 +299,11 @@ impl Director<'_> {
             }
             let mut handles = good_handles(&self.stage.machine, call);
             if call == Call::Relinquish {
-                let dealt = |handle: u32| self.stage.machine.transaction(Handle(handle as u8)).dealt_pages();
+                let dealt = |handle: Handle| self.stage.machine.transaction(handle).dealt_pages();
                 handles.retain(|&handle| !home.is_some_and(|page| dealt(handle).contains(&page)));
             }
             if let Some(handle) = self.random.pick(&handles) {
-                return Some(CallPlan::with_r1(call, handle));
+                return Some(CallPlan::with_handle(call, handle));
             }
         }
         None
@@ -362,13 +362,13 @@ impl Director<'_> {
     /// The first words of a message: a handle that the receiver can use, code that comes back by R7, or any.
     fn message_words(&mut self, receiver: VmId, length: u32) -> Vec<u32> {
         let machine = &self.stage.machine;
-        let meant = |handle: &u32| {
-            let deal = machine.transaction(Handle(*handle as u8)).deal;
+        let meant = |handle: &Handle| {
+            let deal = machine.transaction(*handle).deal;
             deal.is_some_and(|deal| deal.receiver == receiver)
         };
-        let handles: Vec<u32> = (0..16).filter(meant).collect();
+        let handles: Vec<Handle> = handles().filter(meant).collect();
         match self.random.pick(&handles) {
-            Some(handle) if !self.random.one_in(3) => vec![handle],
+            Some(Handle(number)) if !self.random.one_in(3) => vec![u32::from(number)],
             _ if length > 1 && self.random.one_in(2) => {
                 let k = self.random.below(0x1_0000);
                 vec![word_of(Instruction::Addi(2, k)), word_of(Instruction::Br(7))]

@@ -1,7 +1,8 @@
 //! The second oracle: what is wrong with a call, test by test, and the registers that it must leave.
 //!
-//! It is written from the scope document like the reference itself, but apart from it:
-//! it looks at all tests and not only at the first that fails.
+//! It is written from the scope document like the reference itself, but apart from its calls:
+//! it looks at all tests and not only at the first that fails. It has the reference's types, and
+//! their questions which guest, page or transaction a number names.
 
 use super::call::{kind_number, Call, Error, FAILURE, SUCCESS};
 use super::flaw::Flaw;
@@ -354,7 +355,8 @@ pub fn outcome_of(machine: &Machine, flaws: &[Found]) -> Outcome {
             outcome.set(caller, &[Call::Send.number(), u32::from(sender.0), length]);
         }
         (Call::Donate | Call::Lend | Call::Share, _) => {
-            outcome.set(caller, &[SUCCESS, r1, lowest_free(machine)]);
+            let Handle(number) = lowest_free(machine);
+            outcome.set(caller, &[SUCCESS, r1, u32::from(number)]);
         }
         (call, _) => {
             outcome.set(caller, &[SUCCESS]);
@@ -369,11 +371,11 @@ pub fn outcome_of(machine: &Machine, flaws: &[Found]) -> Outcome {
     outcome
 }
 
-/// The lowest free handle's number; 16 if none is free.
-fn lowest_free(machine: &Machine) -> u32 {
-    machine
+/// The lowest free handle; the one behind the last if none is free.
+fn lowest_free(machine: &Machine) -> Handle {
+    let live = machine
         .transactions
         .iter()
-        .take_while(|transaction| transaction.deal.is_some())
-        .count() as u32
+        .take_while(|transaction| transaction.deal.is_some());
+    Handle(live.count() as u8)
 }

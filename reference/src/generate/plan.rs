@@ -4,7 +4,7 @@ use super::call::{kind_number, Call, Error};
 use super::oracle::{flaws_of, Found, DESCRIPTOR_WORDS};
 use super::random::Random;
 use super::standing::{guests, pages_standing, Standing};
-use crate::machine::{Inbox, Machine, PageId, VmId};
+use crate::machine::{Handle, Inbox, Machine, PageId, VmId, HANDLES};
 
 /// What a guest prepares for a call.
 #[derive(Clone, Debug, PartialEq, Eq)]
@@ -34,6 +34,11 @@ impl CallPlan {
             r1: Some(r1),
             ..CallPlan::plain(call)
         }
+    }
+
+    /// A call on a handle.
+    pub fn with_handle(call: Call, handle: Handle) -> CallPlan {
+        CallPlan::with_r1(call, u32::from(handle.0))
     }
 
     /// Send.
@@ -145,8 +150,13 @@ pub fn good_sending(machine: &Machine, call: Call, random: &mut Random) -> Optio
 }
 
 /// The handles with which the current guest could now make this call.
-pub fn good_handles(machine: &Machine, call: Call) -> Vec<u32> {
-    (0..16)
-        .filter(|&handle| CallPlan::with_r1(call, handle).flaws(machine).is_empty())
+pub fn good_handles(machine: &Machine, call: Call) -> Vec<Handle> {
+    handles()
+        .filter(|&handle| CallPlan::with_handle(call, handle).flaws(machine).is_empty())
         .collect()
+}
+
+/// All handles, free or not.
+pub fn handles() -> impl Iterator<Item = Handle> {
+    (0..HANDLES as u8).map(Handle)
 }

@@ -1,4 +1,5 @@
-//! All that images can meet, written down by hand from the scope document.
+//! All that images can meet: tables written down by hand from the scope document, the wrong ways of `flaw.rs`,
+//! and the rules of loading.
 
 use super::call::Call;
 use super::damage::WAYS;

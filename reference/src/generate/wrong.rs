@@ -3,10 +3,10 @@
 use super::call::{Call, Error, HIGH_HALF};
 use super::flaw::{first_flaws, Flaw};
 use super::oracle::{flaw_of_standing, Found, Place};
-use super::plan::{answers, empty_others, good_handles, good_sending, others, some_pages, CallPlan, Sending};
+use super::plan::{answers, empty_others, good_handles, good_sending, handles, others, some_pages, CallPlan, Sending};
 use super::random::Random;
 use super::standing::{guests, pages_standing, Standing};
-use crate::machine::{Inbox, Machine, PageId};
+use crate::machine::{Handle, Inbox, Machine, PageId};
 
 /// What a wrong call is to show.
 #[derive(Clone, Copy, Debug, PartialEq, Eq)]
@@ -223,9 +223,11 @@ fn sending_of_bad_page(machine: &Machine, call: Call, flaw: Flaw, random: &mut R
     Some(Sending::of(call, random.pick(&others(machine))?, &pages))
 }
 
-/// A handle with this flaw for this call.
+/// A word for R1 that names a handle with this flaw for this call.
 fn wrong_handle(machine: &Machine, call: Call, flaw: Flaw, random: &mut Random) -> Option<u32> {
-    let good = random.pick(&good_handles(machine, call));
+    let good = random
+        .pick(&good_handles(machine, call))
+        .map(|handle| u32::from(handle.0));
     match flaw {
         Flaw::HandlePlus16 => Some(16 + good?),
         Flaw::HandleLowByte => Some(random.choose([0x100, 0xFF00, 0xFFFF_FF00]) | good?),
@@ -233,12 +235,12 @@ fn wrong_handle(machine: &Machine, call: Call, flaw: Flaw, random: &mut Random) 
         Flaw::HandleMax => Some(u32::MAX),
         Flaw::HandleOther => Some(random.choose([16, 17, 31, 32, 255, 0x8000_0000])),
         _ => {
-            let shows = |&handle: &u32| {
-                let found = CallPlan::with_r1(call, handle).flaws(machine);
+            let shows = |&handle: &Handle| {
+                let found = CallPlan::with_handle(call, handle).flaws(machine);
                 found.len() == 1 && found[0].flaw == flaw
             };
-            let handles: Vec<u32> = (0..16).filter(shows).collect();
-            random.pick(&handles)
+            let handles: Vec<Handle> = handles().filter(shows).collect();
+            random.pick(&handles).map(|handle| u32::from(handle.0))
         }
     }
 }
