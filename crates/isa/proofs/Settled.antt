@@ -1,5 +1,6 @@
 -- The contracts of `decode` and `encode` take any input and leave no choice of the result.
 -- Assumes nothing.
+use Prim.Native.Nat.{ℕ}
 use mathlib.Core.Path.{_≡_, sym, _∙_}
 use mathlib.Core.List.{List}
 use contract.Lifetimes.{Lfts}
@@ -11,13 +12,13 @@ use Rattle.isa.proofs.encode.Kinds as encode-kinds
 use Rattle.isa.proofs.encode.Reads as encode-reads
 
 -- a contract asks nothing of the arguments
-abbrev pub TakesAny : (ps : List (PK 0)) → In 0 ps → Type 0
-TakesAny ps asked = (κs : Lfts 0) (args : Dens κs ps) → asked κs args
+abbrev pub TakesAny : {n : ℕ} (ps : List (PK n)) → In n ps → Type 0
+TakesAny {n} ps asked = (κs : Lfts n) (args : Dens κs ps) → asked κs args
 
--- any two results that a contract allows for the same arguments are equal
-abbrev pub Settled : (ps : List (PK 0)) (r : RK 0) → Out 0 ps r → Type 0
-Settled ps r post =
-    (κs : Lfts 0) (args : Dens κs ps) (x y : resT r κs .Denot) (u v : AtExit (endedOf 0 ps r) κs) →
+-- any two results that a contract allows for the same arguments are equal, whatever is lent holds at exit
+abbrev pub Settled : {n : ℕ} (ps : List (PK n)) (r : RK n) → Out n ps r → Type 0
+Settled {n} ps r post =
+    (κs : Lfts n) (args : Dens κs ps) (x y : resT r κs .Denot) (u v : AtExit (endedOf n ps r) κs) →
     post κs args x u →
     post κs args y v →
     x ≡ y

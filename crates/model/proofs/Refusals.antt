@@ -46,7 +46,7 @@ checked-with-mode m memory = go (eqb (length memory) (PAGE * m .m)) (sound m) (i
     go true true false p q r = CheckedWithMode.stopped (rw r) (eqb-true _ _ p) q r
 
 -- an answer whose number is not 0
-not-done : (answer : Answer) → (answerNumber answer ≡ 0 → ⊥) → isDone answer ≡ false
+pub not-done : (answer : Answer) → (answerNumber answer ≡ 0 → ⊥) → isDone answer ≡ false
 unfolding answers
 not-done answer h = cannot-pass (λ e. h (eqb-true _ _ e))
 

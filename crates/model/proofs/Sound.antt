@@ -28,7 +28,7 @@ countsInRange-link n m =
     also (λ c. c .sixty-four-pages, leb-link)
     make (λ c. search)
 
-mailboxesDiffer-link : (n : ℕ) (boxes : List Mailbox) → Link (mailboxesDiffer n boxes) (MailboxesDiffer n boxes)
+pub mailboxesDiffer-link : (n : ℕ) (boxes : List Mailbox) → Link (mailboxesDiffer n boxes) (MailboxesDiffer n boxes)
 unfolding mailboxesDiffer apart
 mailboxesDiffer-link n boxes =
     said
@@ -36,7 +36,7 @@ mailboxesDiffer-link n boxes =
     (λ c. record { tx-is-not-rx = λ g b. c g b .0; one-keeper = at-most-one (λ g b. c g b .1) })
     (λ c g b. (c .tx-is-not-rx g b, none-earlier (c .one-keeper) g b))
 
-noPageTwice-link : (transactions : List Transaction) → Link (noPageTwice transactions) (NoPageTwice transactions)
+pub noPageTwice-link : (transactions : List Transaction) → Link (noPageTwice transactions) (NoPageTwice transactions)
 unfolding noPageTwice
 noPageTwice-link transactions =
     said (every-link (λ h. every-link (λ k. holds-link _ (every-link (λ i. never-link))))) at-most-one none-earlier

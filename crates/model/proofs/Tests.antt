@@ -198,3 +198,9 @@ pub length-listed : {A : Type 0} (n : ℕ) (f : ℕ → A) → length (listed n 
 unfolding listed
 length-listed zero f = refl
 length-listed (suc n) f = ap suc (length-listed n (λ i. f (suc i)))
+
+-- tests that agree at every number
+pub every-same : (n : ℕ) (f g : ℕ → Bool) → ((k : ℕ) → k < n → f k ≡ g k) → every n f ≡ every n g
+unfolding every
+every-same zero f g same = refl
+every-same (suc n) f g same = rw (every-same n f g (λ k b. same k (omega arith)), same n (omega arith))

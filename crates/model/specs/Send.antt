@@ -33,8 +33,12 @@ sendVerdict m =
 unfoldable pub notified : Machine → VmId → Machine
 notified m receiver = woken m (written (told (m .registers) SEND (m .current)) primary 2 (receiver .0))
 
+-- the receiver's inbox says how long the message is, and from whom
+abbrev pub deliveredTo : Machine → VmId → ℕ → Machine
+deliveredTo m receiver length = withInboxes m (withInbox (m .inboxes) receiver (Full length (m .current)))
+
 unfoldable pub delivered : Machine → Machine
-delivered m = withInboxes m (withInbox (m .inboxes) (sendTo m) (Full (sendLength m) (m .current)))
+delivered m = deliveredTo m (sendTo m) (sendLength m)
 
 -- the first words of TX, over those of the receiver's RX page; the rest stays
 unfoldable pub copied : State → List ℕ

@@ -9,6 +9,7 @@ use Rattle.model.specs.declared.VmId.{VmId}
 use Rattle.model.specs.declared.PageId.{PageId}
 use Rattle.model.specs.declared.Handle.{Handle}
 use Rattle.model.specs.declared.Kind.{Kind}
+use Rattle.model.specs.declared.PageRecord.{PageRecord}
 use Rattle.model.specs.declared.Deal.{Deal}
 use Rattle.model.specs.declared.Life.{Life}
 use Rattle.model.specs.declared.Life.the-variants.{Free, Live}
@@ -80,25 +81,26 @@ sendingVerdict kind s =
 
 -- The effect.
 
+-- a deal that is not retrieved yet
+abbrev pub newDeal : Kind → VmId → VmId → ℕ → Deal
+newDeal kind sender receiver count =
+    record { sender = sender; receiver = receiver; kind = kind; retrieved = false; count = count }
+
 unfoldable pub sentDeal : Kind → State → Deal
-sentDeal kind s =
-    record
-    { sender = s .machine .current; receiver = vm (sentTo s); kind = kind; retrieved = false; count = sentCount s }
+sentDeal kind s = newDeal kind (s .machine .current) (vm (sentTo s)) (sentCount s)
 
 unfoldable pub sentTransaction : Kind → State → Transaction
 sentTransaction kind s =
     record { life = Live (sentDeal kind s); pages = setEach (sentCount s) (λ i. i) (sentPage s) (replicate PLACES (page 0)) }
 
--- the lowest free handle gets the transaction, its pages their row, and the caller the handle
-unfoldable pub sent : Kind → State → Machine
-sent kind s =
-    settled
-    (s .machine)
-    (lowestFree (s .machine .transactions))
-    (sentTransaction kind s)
-    (sentTransaction kind s)
-    (row (sentDeal kind s))
+-- the lowest free handle gets the transaction, and its pages their row
+abbrev pub sentUnder : Machine → Transaction → PageRecord → Machine
+sentUnder m t due = settled m (lowestFree (m .transactions)) t t due
 
+unfoldable pub sent : Kind → State → Machine
+sent kind s = sentUnder (s .machine) (sentTransaction kind s) (row (sentDeal kind s))
+
+-- the caller gets the handle
 unfoldable pub withHandle : Machine → Handle → Machine
 withHandle m h = withRegisters m (written (m .registers) (m .current) 2 (h .0))
 

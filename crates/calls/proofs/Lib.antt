@@ -1,0 +1,2 @@
+-- Laws of the choice.
+pub mod Chosen

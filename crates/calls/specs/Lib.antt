@@ -1,0 +1,2 @@
+-- The choice of a call, as the code makes it.
+pub mod Choice

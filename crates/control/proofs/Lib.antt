@@ -1,0 +1,3 @@
+-- Laws that the proofs of the calls share.
+pub mod Control
+pub mod Message

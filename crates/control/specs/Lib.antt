@@ -1,0 +1,1 @@
+-- The calls mean what the model says; nothing is defined here.

@@ -1,0 +1,4 @@
+-- Laws that the proofs of the entries share.
+pub mod Answers
+pub mod Settled
+pub mod Shaped

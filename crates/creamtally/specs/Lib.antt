@@ -1,0 +1,2 @@
+-- What the entries leave, as the model says it.
+pub mod Left

@@ -1,0 +1,2 @@
+-- Laws of a sending.
+pub mod Offer
