@@ -27,19 +27,19 @@ NoneOf w [] = Unit
 NoneOf w (n ∷ before) = NoneOf w before × (w ≡ n → ⊥)
 
 -- the two sides of a choice
-either : {A : Type 0} → A → A → Bool → A
-either here there b = elim b [ true ↦ here | false ↦ there ]
+side : {A : Type 0} → A → A → Bool → A
+side here there b = elim b [ true ↦ here | false ↦ there ]
 
 module _ {A : Type 0} (c : Choice A) (rest : List (Choice A)) (otherwise : A) (w : ℕ) where
   pub chosen-past : (w ≡ c .number → ⊥) → chosen (c ∷ rest) otherwise w ≡ chosen rest otherwise w
-  unfolding chosen either
-  chosen-past e = ap (either (c .value) (chosen rest otherwise w)) (ne-eqb w (c .number) e)
+  unfolding chosen side
+  chosen-past e = ap (side (c .value) (chosen rest otherwise w)) (ne-eqb w (c .number) e)
 
   -- two lists that begin alike
   pub chosen-after : (other : List (Choice A)) → chosen rest otherwise w ≡ chosen other otherwise w
       → chosen (c ∷ rest) otherwise w ≡ chosen (c ∷ other) otherwise w
-  unfolding chosen either
-  chosen-after other e = ap (λ (x : A). either (c .value) x (eqb w (c .number))) e
+  unfolding chosen side
+  chosen-after other e = ap (λ (x : A). side (c .value) x (eqb w (c .number))) e
 
 -- w is the number of none in the list
 abbrev pub Avoids : {A : Type 0} → ℕ → List (Choice A) → Type 0

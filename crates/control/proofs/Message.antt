@@ -32,23 +32,23 @@ use Rattle.parts.proofs.Answers.{need-joined, need-fails, need-passes, refusal,
 
 -- The first i words over those of a list. A loop that lays them begins, goes on past i, has come to the end.
 
-unfoldable pub laid : ℕ → List ℕ → List ℕ → List ℕ
-laid i words l = take i words ++ drop i l
+unfoldable pub over : ℕ → List ℕ → List ℕ → List ℕ
+over i words l = take i words ++ drop i l
 
-pub laid-none : (words l : List ℕ) → l ≡ laid 0 words l
-unfolding laid
-laid-none words l = refl
+pub over-none : (words l : List ℕ) → l ≡ over 0 words l
+unfolding over
+over-none words l = refl
 
-pub laid-more : (i : ℕ) (words l : List ℕ) {now : List ℕ} → i < length words → i < length l
-    → now ≡ laid i words l → set now i (getD words i 0) ≡ laid (i + 1) words l
-unfolding laid
-laid-more i words l hw hl e =
+pub over-more : (i : ℕ) (words l : List ℕ) {now : List ℕ} → i < length words → i < length l
+    → now ≡ over i words l → set now i (getD words i 0) ≡ over (i + 1) words l
+unfolding over
+over-more i words l hw hl e =
     rw (add-one i, e) (simp zero-add at (paste-suc l 0 words i 0 (omega arith) hw))
 
-pub laid-whole : {i : ℕ} (words l : List ℕ) {now : List ℕ} → i ≤ length words → length words ≤ i
-    → now ≡ laid i words l → now ≡ words ++ drop (length words) l
-unfolding laid
-laid-whole words l h b e = rw (e, le-antisymm h b, take-length words)
+pub over-whole : {i : ℕ} (words l : List ℕ) {now : List ℕ} → i ≤ length words → length words ≤ i
+    → now ≡ over i words l → now ≡ words ++ drop (length words) l
+unfolding over
+over-whole words l h b e = rw (e, le-antisymm h b, take-length words)
 
 -- The words of a page, as the copier takes them: they stand at the front of its array.
 

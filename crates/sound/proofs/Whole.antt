@@ -27,6 +27,11 @@ pub both-are : {a b x y : Bool} → x ≡ a → y ≡ b → a and b ≡ (x && y)
 unfolding _and_
 both-are p q = rw (p, q)
 
+-- two tests that pass are one
+infixr 35 _both_
+_both_ : {a b : Bool} → a ≡ true → b ≡ true → a and b ≡ true
+p both q = and-intro p q
+
 -- a test that is two, for what follows from both
 chain : {a b : Bool} {C : Type 0} → a and b ≡ true → (a ≡ true → b ≡ true → C) → C
 chain e then = then (and-left _ _ e) (and-right _ _ e)
@@ -88,7 +93,14 @@ module _ (m : Machine) where
       chain e (λ due e.
       chain e (λ guests-blank e.
       chain e (λ pages-blank places-blank.
-      and-intro (and-intro counts page-counts) (and-intro (and-intro below (and-intro owners (and-intro parties pages))) (and-intro (and-intro differ (and-intro no-box once)) (and-intro current (and-intro (and-intro lengths (and-intro senders no-own)) (and-intro (and-intro two-parties (and-intro ascend no-donation)) (and-intro due (and-intro guests-blank (and-intro pages-blank places-blank))))))))))))))))))))))))))))
+      (counts both page-counts)
+      both (below both owners both parties both pages)
+      both (differ both no-box both once)
+      both current
+      both (lengths both senders both no-own)
+      both (two-parties both ascend both no-donation)
+      both due
+      both guests-blank both pages-blank both places-blank))))))))))))))))))))
       (λ e.
       chain e (λ c e.
       chain e (λ r e.
@@ -109,7 +121,9 @@ module _ (m : Machine) where
       chain d (λ ascend no-donation.
       chain b (λ guests-blank b.
       chain b (λ pages-blank places-blank.
-      and-intro counts (and-intro page-counts (and-intro lengths (and-intro differ (and-intro below (and-intro current (and-intro owners (and-intro senders (and-intro no-own (and-intro two-parties (and-intro parties (and-intro ascend (and-intro pages (and-intro no-box (and-intro no-donation (and-intro once (and-intro due (and-intro guests-blank (and-intro pages-blank places-blank))))))))))))))))))))))))))))))))))))))
+      counts both page-counts both lengths both differ both below both current both owners both senders both no-own
+      both two-parties both parties both ascend both pages both no-box both no-donation both once both due
+      both guests-blank both pages-blank both places-blank))))))))))))))))))))
 
   -- Where the code stops, and where it does not.
 
