@@ -15,6 +15,10 @@ use Rattle.model.specs.Shaped.{Shaped}
 use Rattle.model.proofs.Typed.{typed-shaped}
 use Rattle.creamtally.proofs.check as the-check
 use Rattle.creamtally.proofs.call as the-call
+use Rattle.creamtally.proofs.step as the-step
+use Rattle.creamtally.proofs.run as the-run
+use Rattle.creamtally.proofs.run_to_call as the-leg
+use Rattle.creamtally.proofs.message as the-message
 
 -- in every model of the logic, what is owned where a function of this signature is entered shows the claim of its arguments
 abbrev pub TakesOnly : (S : Signature) → ((κs : Lfts (S .lifetimes)) → Args S κs → Type 0) → Type 2
@@ -36,3 +40,15 @@ check-takes-shaped = takes-only the-check.signature _ (λ κs args vss t. typed-
 
 pub call-takes-shaped : TakesOnly the-call.signature (λ κs args. Shaped (args .0))
 call-takes-shaped = takes-only the-call.signature _ (λ κs args vss t. typed-shaped (args .0) (_, t .0))
+
+pub step-takes-shaped : TakesOnly the-step.signature (λ κs args. Shaped (args .0))
+step-takes-shaped = takes-only the-step.signature _ (λ κs args vss t. typed-shaped (args .0) (_, t .0))
+
+pub run-takes-shaped : TakesOnly the-run.signature (λ κs args. Shaped (args .0))
+run-takes-shaped = takes-only the-run.signature _ (λ κs args vss t. typed-shaped (args .0) (_, t .0))
+
+pub run-to-call-takes-shaped : TakesOnly the-leg.signature (λ κs args. Shaped (args .0))
+run-to-call-takes-shaped = takes-only the-leg.signature _ (λ κs args vss t. typed-shaped (args .0) (_, t .0))
+
+pub message-takes-shaped : TakesOnly the-message.signature (λ κs args. Shaped (args .0))
+message-takes-shaped = takes-only the-message.signature _ (λ κs args vss t. typed-shaped (args .0) (_, t .0))

@@ -24,6 +24,15 @@ same-fields :
     (f g : Fields) → f .code ≡ g .code → f .d ≡ g .d → f .s ≡ g .s → f .k ≡ g .k → f ≡ g
 same-fields f g c d s k = λ i. record { code = c i; d = d i; s = s i; k = k i }
 
+-- x is none of 1 to n, as the last arm of a match on numbers has it; then it is 0, or above n
+abbrev pub NoneOf : ℕ → ℕ → Type 0
+NoneOf zero x = Unit
+NoneOf (suc n) x = NoneOf n x × (x ≡ suc n → ⊥)
+
+pub none-below : (n x : ℕ) → NoneOf n x → x ≤ n → x ≡ 0
+none-below zero x r h = omega arith
+none-below (suc n) x r h = none-below n x (r .0) (omega (arith, r .1))
+
 -- the row of code 0 and of the codes behind the list
 pub no-opcode : (f : Fields) → (f .code ≤ 13 → f .code ≡ 0) → opcodeAt f ≡ opcode None Halt
 unfolding opcodeAt opcodes

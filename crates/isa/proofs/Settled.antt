@@ -1,4 +1,5 @@
--- The contracts of `decode` and `encode` take any input and leave no choice of the result.
+-- The contracts of `decode` and `encode`, and of the two functions that show their fields, take any input and leave no choice
+-- of the result.
 -- Assumes nothing.
 use Prim.Native.Nat.{ℕ}
 use mathlib.Core.Path.{_≡_, sym, _∙_}
@@ -10,6 +11,10 @@ use Rattle.isa.proofs.decode.Kinds as decode-kinds
 use Rattle.isa.proofs.decode.Reads as decode-reads
 use Rattle.isa.proofs.encode.Kinds as encode-kinds
 use Rattle.isa.proofs.encode.Reads as encode-reads
+use Rattle.isa.proofs.fields_of.Kinds as fields-kinds
+use Rattle.isa.proofs.fields_of.Reads as fields-reads
+use Rattle.isa.proofs.legal.Kinds as legal-kinds
+use Rattle.isa.proofs.legal.Reads as legal-reads
 
 -- a contract asks nothing of the arguments
 abbrev pub TakesAny : {n : ℕ} (ps : List (PK n)) → In n ps → Type 0
@@ -34,3 +39,15 @@ decode-settled κs args x y u v p q = p ∙ sym q
 
 pub encode-settled : Settled encode-kinds.ps encode-kinds.r encode-reads.Post
 encode-settled κs args x y u v p q = p ∙ sym q
+
+pub fields-of-takes-any : TakesAny fields-kinds.ps fields-reads.Asked
+fields-of-takes-any κs args = tt
+
+pub legal-takes-any : TakesAny legal-kinds.ps legal-reads.Asked
+legal-takes-any κs args = tt
+
+pub fields-of-settled : Settled fields-kinds.ps fields-kinds.r fields-reads.Post
+fields-of-settled κs args x y u v p q = p ∙ sym q
+
+pub legal-settled : Settled legal-kinds.ps legal-kinds.r legal-reads.Post
+legal-settled κs args x y u v p q = p ∙ sym q

@@ -1,8 +1,11 @@
 // Instruction words: the thirteen instructions, and the two ways between a word and its meaning.
 //
 // Both entries take any input. `decode` gives the meaning of a word or says that it has none; `encode` gives the one
-// word of a meaning or says that it has none. What they answer is defined in `specs/`, and their contracts are
-// equations with those definitions.
+// word of a meaning or says that it has none. Beside them `fields_of` and `legal`, of which decoding is made, serve the
+// inner loop, which has no use for the meaning as a value. What they answer is defined in `specs/`, and their contracts
+// are equations with those definitions.
+
+pub mod codes;
 
 ghost use mathlib.Core.Path.{_≡_};
 ghost use mathlib.Core.Bool.{true};
@@ -65,7 +68,7 @@ pub enum Encoded {
 }
 
 // A word cut into its fields.
-fn fields_of(word: u32) -> Fields
+pub fn fields_of(word: u32) -> Fields
     ensures { λ r. ⌜ r ≡ fieldsOf word ⌝ }
 {
     Fields {
@@ -92,19 +95,19 @@ fn opcode_at(f: Fields) -> Opcode
 {
     let code = f.code;
     match code {
-        1 => row(Shape::DK, Instruction::Movi(f.d, f.k)),
-        2 => row(Shape::DK, Instruction::Movt(f.d, f.k)),
-        3 => row(Shape::DS, Instruction::Mov(f.d, f.s)),
-        4 => row(Shape::DS, Instruction::Ldr(f.d, f.s)),
-        5 => row(Shape::DS, Instruction::Str(f.d, f.s)),
-        6 => row(Shape::DS, Instruction::Add(f.d, f.s)),
-        7 => row(Shape::DS, Instruction::Sub(f.d, f.s)),
-        8 => row(Shape::DK, Instruction::Addi(f.d, f.k)),
-        9 => row(Shape::DS, Instruction::Cmp(f.d, f.s)),
-        10 => row(Shape::S, Instruction::Bne(f.s)),
-        11 => row(Shape::S, Instruction::Br(f.s)),
-        12 => row(Shape::Bare, Instruction::Hvc),
-        13 => row(Shape::Bare, Instruction::Halt),
+        codes::MOVI => row(Shape::DK, Instruction::Movi(f.d, f.k)),
+        codes::MOVT => row(Shape::DK, Instruction::Movt(f.d, f.k)),
+        codes::MOV => row(Shape::DS, Instruction::Mov(f.d, f.s)),
+        codes::LDR => row(Shape::DS, Instruction::Ldr(f.d, f.s)),
+        codes::STR => row(Shape::DS, Instruction::Str(f.d, f.s)),
+        codes::ADD => row(Shape::DS, Instruction::Add(f.d, f.s)),
+        codes::SUB => row(Shape::DS, Instruction::Sub(f.d, f.s)),
+        codes::ADDI => row(Shape::DK, Instruction::Addi(f.d, f.k)),
+        codes::CMP => row(Shape::DS, Instruction::Cmp(f.d, f.s)),
+        codes::BNE => row(Shape::S, Instruction::Bne(f.s)),
+        codes::BR => row(Shape::S, Instruction::Br(f.s)),
+        codes::HVC => row(Shape::Bare, Instruction::Hvc),
+        codes::HALT => row(Shape::Bare, Instruction::Halt),
         _ => row(Shape::None, Instruction::Halt),
     }
 }
@@ -123,7 +126,7 @@ fn fits_shape(shape: Shape, f: Fields) -> bool
 }
 
 // Whether the fields are an instruction's.
-fn legal(f: Fields) -> bool
+pub fn legal(f: Fields) -> bool
     ensures { λ r. ⌜ r ≡ legal f ⌝ }
 {
     let row = opcode_at(f);
@@ -162,19 +165,19 @@ fn parts_of(i: Instruction) -> Fields
     ensures { λ r. ⌜ r ≡ partsOf i ⌝ }
 {
     match i {
-        Instruction::Movi(d, k) => parts(1, d, 0, k),
-        Instruction::Movt(d, k) => parts(2, d, 0, k),
-        Instruction::Mov(d, s) => parts(3, d, s, 0),
-        Instruction::Ldr(d, s) => parts(4, d, s, 0),
-        Instruction::Str(d, s) => parts(5, d, s, 0),
-        Instruction::Add(d, s) => parts(6, d, s, 0),
-        Instruction::Sub(d, s) => parts(7, d, s, 0),
-        Instruction::Addi(d, k) => parts(8, d, 0, k),
-        Instruction::Cmp(d, s) => parts(9, d, s, 0),
-        Instruction::Bne(s) => parts(10, 0, s, 0),
-        Instruction::Br(s) => parts(11, 0, s, 0),
-        Instruction::Hvc => parts(12, 0, 0, 0),
-        Instruction::Halt => parts(13, 0, 0, 0),
+        Instruction::Movi(d, k) => parts(codes::MOVI, d, 0, k),
+        Instruction::Movt(d, k) => parts(codes::MOVT, d, 0, k),
+        Instruction::Mov(d, s) => parts(codes::MOV, d, s, 0),
+        Instruction::Ldr(d, s) => parts(codes::LDR, d, s, 0),
+        Instruction::Str(d, s) => parts(codes::STR, d, s, 0),
+        Instruction::Add(d, s) => parts(codes::ADD, d, s, 0),
+        Instruction::Sub(d, s) => parts(codes::SUB, d, s, 0),
+        Instruction::Addi(d, k) => parts(codes::ADDI, d, 0, k),
+        Instruction::Cmp(d, s) => parts(codes::CMP, d, s, 0),
+        Instruction::Bne(s) => parts(codes::BNE, 0, s, 0),
+        Instruction::Br(s) => parts(codes::BR, 0, s, 0),
+        Instruction::Hvc => parts(codes::HVC, 0, 0, 0),
+        Instruction::Halt => parts(codes::HALT, 0, 0, 0),
     }
 }
 

@@ -37,5 +37,6 @@ pub mod Promise
 pub mod Quickly
 pub mod Computing
 pub mod PCases
+pub mod Legs
 pub mod PromiseApplies
 pub mod PromiseVariants

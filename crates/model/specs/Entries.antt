@@ -4,6 +4,7 @@ use mathlib.Core.Bool.{Bool, true, false, cond}
 use mathlib.Core.List.{List, []}
 use lib.ListN.{length, take, drop}
 use lib.Dec.{ltb, eqb}
+use Rattle.isa.specs.Tests.{_and_}
 use Rattle.model.specs.declared.VmId.{VmId}
 use Rattle.model.specs.declared.Mode.{Mode}
 use Rattle.model.specs.declared.Machine.{Machine}
@@ -93,3 +94,9 @@ waiting m memory g =
 
 unfoldable pub messageOf : Machine → List ℕ → VmId → List ℕ
 messageOf m memory g = cond (isDone (checkOf m memory)) (waiting m memory g) []
+
+-- it begins with the first word of g's RX page; the empty part where there is no guest g, or the check refuses, with the first
+-- word of all
+unfoldable pub messagePlace : Machine → List ℕ → VmId → ℕ
+messagePlace m memory g =
+    cond (isDone (checkOf m memory) and ltb (g .0) (m .n)) (baseOf (mailboxAt (m .mailboxes) g .rx)) 0

@@ -32,11 +32,13 @@ pub mod Act
 pub mod Kept
 pub mod Refusals
 pub mod RunSteps
+pub mod ToCall
 pub mod NoAborted
 pub mod Honest
 pub mod Frame
 pub mod Promise
 pub mod Laws
 pub mod PCases
+pub mod Legs
 pub mod PromiseApplies
 pub mod PromiseVariants

@@ -137,6 +137,20 @@ pub struct Ran {
     pub count: u32,
 }
 
+// The call that a run came to, if it came to one: who made it, and its R0 before.
+pub enum NextCall {
+    None,
+    Made { caller: VmId, r0: u32 },
+}
+
+// What a run up to the next call gives back.
+pub struct RanToCall {
+    pub answer: Answer,
+    pub machine: Machine,
+    pub count: u32,
+    pub call: NextCall,
+}
+
 // What loading an image gives back: also the image's budget, and where the bad record of a broken one starts.
 pub struct Loaded {
     pub answer: Answer,

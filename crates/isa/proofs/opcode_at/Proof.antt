@@ -1,22 +1,11 @@
 -- `isa::opcode_at` meets its contract: each arm gives the row that stands in the list at the arm's code, and the last arm
 -- is left with the codes that have none.
 -- Assumes nothing.
-use Prim.Native.Nat.{ℕ, zero, suc, _≤_}
-use mathlib.Core.Path.{_≡_, _∙_, sym}
-use native.Mathlib.Omega.{arith}
+use mathlib.Core.Path.{_∙_, sym}
 use Rattle.isa.specs.Opcodes.{opcodes, opcodeAt}
-use Rattle.isa.proofs.Laws.{no-opcode}
+use Rattle.isa.proofs.Laws.{none-below, no-opcode}
 use Rattle.isa.proofs.opcode_at.Statement.{statement}
 use Rattle.isa.proofs.opcode_at.Tie as tie
-
--- x is none of 1 to n
-abbrev NoneOf : ℕ → ℕ → Type 0
-NoneOf zero x = Unit
-NoneOf (suc n) x = NoneOf n x × (x ≡ suc n → ⊥)
-
-none-below : (n x : ℕ) → NoneOf n x → x ≤ n → x ≡ 0
-none-below zero x r h = omega arith
-none-below (suc n) x r h = none-below n x (r .0) (omega (arith, r .1))
 
 no-code : tie.Need-returns-14
 no-code c =
