@@ -39,20 +39,23 @@ pub fn agree(workload: &Workload) -> Result<(), String> {
     Ok(())
 }
 
-/// The library takes no step and leaves the memory if there is no such workload, or the memory has another size.
-pub fn refuses() -> Result<(), String> {
+/// The library takes no step and leaves the memory if the image is broken, or the memory has another size.
+pub fn refuses(workload: &Workload) -> Result<(), String> {
+    let image = &workload.image[..];
+    let broken = &image[..image.len() - 1];
     let cases = [
-        (5, MEMORY),
-        (u32::MAX, MEMORY),
-        (0, 0),
-        (0, MEMORY - 1),
-        (4, MEMORY + 1),
+        (broken, MEMORY),
+        (&[], MEMORY),
+        (image, 0),
+        (image, MEMORY - 1),
+        (image, MEMORY + 1),
     ];
-    for (workload, words) in cases {
+    for (image, words) in cases {
         let mut memory = vec![u32::MAX; words];
-        let count = library::run(workload, 1_000, &mut memory);
+        let count = library::run(image, 1_000, &mut memory);
         if count != 0 || memory.iter().any(|word| *word != u32::MAX) {
-            return Err(format!("workload {workload} in {words} words is not refused"));
+            let (name, bytes) = (workload.name, image.len());
+            return Err(format!("{name}: {bytes} bytes of it in {words} words are not refused"));
         }
     }
     Ok(())

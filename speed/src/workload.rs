@@ -1,4 +1,4 @@
-//! The workloads: made from their texts for the reference, and known to the library by number.
+//! The workloads: images made from their texts.
 
 use std::time::{Duration, Instant};
 
@@ -7,7 +7,7 @@ use tools::asm::assemble;
 
 use crate::library;
 
-/// Name and text of each workload; its place is its number.
+/// Name and text of each workload.
 const TEXTS: [(&str, &str); 5] = [
     ("arithmetic", include_str!("../workloads/arithmetic.asm")),
     ("copying", include_str!("../workloads/copying.asm")),
@@ -22,7 +22,7 @@ pub const MEMORY: usize = 10 * 1024;
 /// A workload as it starts.
 pub struct Workload {
     pub name: &'static str,
-    number: u32,
+    pub image: Vec<u8>,
     machine: Machine,
     memory: Vec<u32>,
 }
@@ -36,14 +36,11 @@ pub struct Run {
 
 /// All workloads, or what is wrong with one of them.
 pub fn all() -> Result<Vec<Workload>, String> {
-    let numbered = (0..).zip(TEXTS);
-    numbered
-        .map(|(number, (name, text))| made(number, name, text))
-        .collect()
+    TEXTS.iter().map(|(name, text)| made(name, text)).collect()
 }
 
 /// A workload from its text.
-fn made(number: u32, name: &'static str, text: &str) -> Result<Workload, String> {
+fn made(name: &'static str, text: &str) -> Result<Workload, String> {
     let assembly = assemble(text).map_err(|problems| format!("{name}: {problems:?}"))?;
     let mut memory = vec![0; MEMORY];
     let loaded = load(&assembly.image, &mut memory);
@@ -52,7 +49,7 @@ fn made(number: u32, name: &'static str, text: &str) -> Result<Workload, String>
     }
     Ok(Workload {
         name,
-        number,
+        image: assembly.image,
         machine: loaded.machine,
         memory,
     })
@@ -73,7 +70,7 @@ impl Workload {
     pub fn by_library(&self, budget: u32) -> Run {
         let mut memory = vec![u32::MAX; MEMORY];
         let start = Instant::now();
-        let count = library::run(self.number, budget, &mut memory);
+        let count = library::run(&self.image, budget, &mut memory);
         let time = start.elapsed();
         Run { count, memory, time }
     }

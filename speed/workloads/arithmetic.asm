@@ -1,4 +1,4 @@
-; arithmetic.asm: workload 0, arithmetic in a loop for ever.
+; arithmetic.asm: arithmetic in a loop for ever.
 ;
 ; Guest 0 computes with its registers. Each thousandth turn it stores a result, so that a wrong one would be seen.
 

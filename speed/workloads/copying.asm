@@ -1,4 +1,4 @@
-; copying.asm: workload 1, a page copied for ever.
+; copying.asm: a page copied for ever.
 ;
 ; Guest 0 copies page 6 to page 7, word by word, and then again. Before each turn the first word changes.
 

@@ -1,4 +1,4 @@
-; mixed.asm: workload 2, a bit of everything but calls of the machine, for ever.
+; mixed.asm: a bit of everything but calls of the machine, for ever.
 ;
 ; Guest 0 loads a word, has a little function change it, stores it and compares it with a counter.
 

@@ -1,4 +1,4 @@
-; page-calls.asm: workload 4, a page that goes to the other guest and comes back, for ever.
+; page-calls.asm: a page that goes to the other guest and comes back, for ever.
 ;
 ; Guest 0 shares page 6 with guest 1 and runs it; guest 1 retrieves the page, relinquishes it and yields; guest 0 reclaims
 ; it. It adds up what Reclaim leaves in R0 and stores the sum, so that an error would be seen.

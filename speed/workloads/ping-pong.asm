@@ -1,4 +1,4 @@
-; ping-pong.asm: workload 3, two guests that take turns for ever.
+; ping-pong.asm: two guests that take turns for ever.
 ;
 ; Guest 0 runs guest 1, which yields at once. Guest 0's R0 is then the number of Yield; it adds these up and stores the
 ; sum, so that a turn that went wrong would be seen.

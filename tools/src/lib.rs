@@ -11,6 +11,7 @@ pub mod names;
 pub mod numbers;
 pub mod operands;
 pub mod program;
+pub mod samples;
 mod spelling;
 pub mod statements;
 pub mod values;

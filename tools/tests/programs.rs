@@ -8,6 +8,7 @@ use std::fs;
 const ASM: &str = env!("CARGO_BIN_EXE_asm");
 const DIS: &str = env!("CARGO_BIN_EXE_dis");
 const EXPLAIN: &str = env!("CARGO_BIN_EXE_explain");
+const SAMPLES: &str = env!("CARGO_BIN_EXE_samples");
 
 #[test]
 fn asm_and_dis_as_filters() {
@@ -124,7 +125,9 @@ fn arguments_that_are_wrong() {
 #[test]
 fn help_is_five_lines_and_an_example() {
     let here = folder("help");
-    for program in [ASM, DIS, EXPLAIN, own("try").to_str().expect("a path of this package")] {
+    let [script, bench] = [own("try"), own("../bench")];
+    let [script, bench] = [&script, &bench].map(|path| path.to_str().expect("a path of this package"));
+    for program in [ASM, DIS, EXPLAIN, SAMPLES, script, bench] {
         let (status, output, error) = told(&run(program, &here, &["--help"], b""));
         assert_eq!((status, error.as_str()), (0, ""));
         assert_eq!(output.lines().count(), 6, "{output}");

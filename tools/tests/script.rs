@@ -1,4 +1,4 @@
-//! The script `try`, and what the project's first page shows of it.
+//! The script `try`, what `./bench` says before it runs the proved program, and what the project's first page shows.
 
 mod running;
 
@@ -120,24 +120,58 @@ fn the_script_says_what_is_missing_or_wrong() {
 }
 
 #[test]
+fn bench_says_what_is_missing_or_wrong() {
+    let here = folder("bench-wrong");
+    fs::write(here.join("image"), [1, 2, 3]).expect("an image");
+    fs::write(here.join("my.txt"), "budget 5\n").expect("a text");
+    fs::write(here.join("a.asm"), "halt").expect("a text");
+    let bench = own("../bench");
+    let table: [(&[&str], i32, &str); 7] = [
+        (&["no.asm"], 1, "no.asm: no such file"),
+        (&["--explain", "no"], 1, "no: no such file"),
+        (&["."], 1, ".: not a file that can be read"),
+        (
+            &["my.txt"],
+            1,
+            "my.txt: this is a text, not an image, and the name of a text must end in .asm",
+        ),
+        (&["--both", "image"], 2, "--both is no option; try ./bench --help"),
+        (
+            &["image", "--explain", "a.asm"],
+            2,
+            "a.asm is one image too many; try ./bench --help",
+        ),
+        (&[""], 2, "the name of the image is empty; try ./bench --help"),
+    ];
+    for (arguments, status, what) in table {
+        let output = run(bench.to_str().expect("a path of this package"), &here, arguments, b"");
+        assert_eq!(told(&output), (status, String::new(), format!("bench: {what}\n")));
+    }
+    let mut command = Command::new("/bin/bash");
+    command
+        .arg(bench)
+        .arg("a.asm")
+        .current_dir(&here)
+        .env("PATH", "/nowhere");
+    let (status, output, error) = told(&command.output().expect("bash"));
+    assert_eq!((status, output.as_str()), (1, ""));
+    assert!(
+        error.starts_with("bench: rt is missing: it comes with the Rattle kit"),
+        "{error}"
+    );
+}
+
+#[test]
 fn the_first_page_shows_what_the_story_prints() {
     let page = fs::read_to_string(own("../README.md")).expect("the project's first page");
-    let (_, section) = page
-        .split_once("tools/try images/eleven-hulls.asm")
-        .expect("the command");
+    let (_, section) = page.split_once("./bench images/eleven-hulls.asm").expect("the command");
     let block = section.split("```").nth(1).expect("what it prints");
-    let (status, output, error) = try_in(&own(".."), &["images/eleven-hulls.asm"]);
-    assert_eq!((status, error.as_str()), (0, ""));
-    let mut printed = output.lines();
-    let shown: Vec<&str> = block
+    // Each line stands left of a remark.
+    let shown: String = block
+        .trim_start()
         .lines()
-        .filter(|line| !line.is_empty() && *line != "...")
+        .map(|line| format!("{}\n", line.split_once("  ").expect("a remark").0))
         .collect();
-    assert!(shown.len() >= 4, "{block}");
-    for line in shown {
-        assert!(
-            printed.any(|other| other == line),
-            "not printed, or not in this order: {line}"
-        );
-    }
+    let printed = fs::read_to_string(own("../images/eleven-hulls.out")).expect("its lines");
+    assert_eq!(shown, printed);
 }

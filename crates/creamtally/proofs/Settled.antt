@@ -11,6 +11,7 @@ use denote.Triple.Clauses.{AtExit}
 use Rattle.isa.proofs.Settled.{TakesAny, Settled}
 use Rattle.model.specs.Entries.{Acted, Went}
 use Rattle.model.specs.ToCall.{WentToCall}
+use Rattle.image.specs.Loading.{Put}
 use Rattle.creamtally.proofs.answer_number.Kinds as number-kinds
 use Rattle.creamtally.proofs.answer_number.Reads as number-reads
 use Rattle.creamtally.proofs.check.Kinds as check-kinds
@@ -25,6 +26,8 @@ use Rattle.creamtally.proofs.run_to_call.Kinds as leg-kinds
 use Rattle.creamtally.proofs.run_to_call.Reads as leg-reads
 use Rattle.creamtally.proofs.message.Kinds as message-kinds
 use Rattle.creamtally.proofs.message.Reads as message-reads
+use Rattle.creamtally.proofs.load.Kinds as load-kinds
+use Rattle.creamtally.proofs.load.Reads as load-reads
 
 -- any two outcomes that a contract allows for the same arguments are equal: the results, and the memory at exit
 abbrev pub SettledLent : {n : ℕ} (ps : List (PK n)) (r : RK n) → Out n ps r
@@ -66,6 +69,9 @@ run-to-call-takes-any κs args = tt
 pub message-takes-any : TakesAny message-kinds.ps message-reads.Asked
 message-takes-any κs args = tt
 
+pub load-takes-any : TakesAny load-kinds.ps load-reads.Asked
+load-takes-any κs args = tt
+
 pub answer-number-settled : Settled number-kinds.ps number-kinds.r number-reads.Post
 answer-number-settled κs args x y u v p q = p ∙ sym q
 
@@ -92,3 +98,6 @@ run-to-call-settled κs args x y u v p q = both (λ (w : WentToCall). w .result)
 
 pub message-settled : SettledPart message-kinds.ps message-kinds.r message-reads.Post (λ κs part. part)
 message-settled κs args x y u v p q = (p .0 ∙ sym (q .0), p .1 ∙ sym (q .1))
+
+pub load-settled : SettledLent load-kinds.ps load-kinds.r load-reads.Post (λ κs last. now (last .1 .0))
+load-settled κs args x y u v p q = both (λ (a : Put). a .result) (λ a. a .memory) p q

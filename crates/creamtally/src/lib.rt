@@ -4,6 +4,7 @@
 mod modes;
 
 use model::Answer;
+use model::Loaded;
 use model::Machine;
 use model::NextCall;
 use model::Ran;
@@ -15,6 +16,7 @@ ghost use mathlib.Core.Path.{_≡_};
 ghost use Rattle.model.specs.Answer.{answerNumber};
 ghost use Rattle.model.specs.Entries.{checkOf, stepOf, runOf, callOf, messageOf, messagePlace};
 ghost use Rattle.model.specs.ToCall.{runToCallOf};
+ghost use Rattle.image.specs.Loading.{leftByLoad, loadOf};
 ghost use Rattle.creamtally.specs.Left.{left, leftByRun, leftByLeg, walkOf};
 ghost use Rattle.creamtally.specs.Part.{BeginsAt};
 
@@ -139,4 +141,12 @@ pub fn message<'a>(machine: Machine, mem: &'a [u32], g: VmId) -> &'a [u32]
     let base = 1024 * (inboxes::mailbox_at(boxes, g).rx.0 as usize);
     let end = base + words;
     &mem[base..end]
+}
+
+// The machine and the budget that an image means, with its words laid into the lent memory: answers 0, 1 and 4. Whether the image is
+// broken is told before whether the memory fits; a refusal gives the blank machine and leaves the memory.
+pub fn load(bytes: &[u8], mem: &mut [u32]) -> Loaded
+    ensures { λ r. ⌜ leftByLoad r (now (mem .exit)) ≡ loadOf (now (bytes .entry)) (now (mem .entry)) ⌝ }
+{
+    image::load(bytes, mem)
 }

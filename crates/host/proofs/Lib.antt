@@ -1,5 +1,3 @@
--- Laws that the proofs of the library share, and theorems about its contract.
-pub mod Laid
+-- Which way a host's run goes, and that its contract leaves no choice.
 pub mod Ways
-pub mod Workload
 pub mod Settled

@@ -1,30 +1,25 @@
--- Which way the definition of a host's run goes, by what the code tests.
-use Prim.Native.Nat.{ℕ, _≤_, _<_}
+-- Which way the definition of a host's run goes, by what the load answered.
+use Prim.Native.Nat.{ℕ}
 use mathlib.Core.Path.{_≡_, ap}
+use mathlib.Core.Bool.{true, false}
 use mathlib.Core.List.{List}
-use lib.ListN.{length}
-use borrow.Author.Tests.{lt-ltb, le-ltb, eq-eqb, ne-eqb}
-use Rattle.isa.specs.Tests.{_and_}
 use Rattle.model.specs.declared.Ran.{Ran}
-use Rattle.model.specs.declared.Machine.{Machine}
+use Rattle.model.specs.declared.Loaded.{Loaded}
+use Rattle.model.specs.Answer.{isDone}
 use Rattle.model.specs.Entries.{Went, runOf}
-use Rattle.host.specs.Workloads.{WORKLOADS, SIZE, wordsOf, workloadMachine}
-use Rattle.host.specs.Hosted.{hosted, hostedRun, accepted, hostedBy, hostedOf}
+use Rattle.image.specs.Loading.{leftByLoad, loadOf}
+use Rattle.host.specs.Hosted.{hosted, hostedRun, hostedBy, hostedOf}
 
-module _ (workload budget : ℕ) (memory : List ℕ) where
-  pub no-workload : WORKLOADS ≤ workload → hosted 0 memory ≡ hostedOf workload budget memory
-  unfolding hostedOf hostedBy accepted _and_
-  no-workload h = rw (le-ltb workload WORKLOADS h)
+module _ (image : List ℕ) (budget : ℕ) (memory : List ℕ) where
+  pub not-loaded : (result : Loaded) {after : List ℕ} → leftByLoad result after ≡ loadOf image memory
+      → isDone (result .answer) ≡ false
+      → hosted 0 after ≡ hostedOf image budget memory
+  unfolding hostedOf hostedBy
+  not-loaded result loaded refused = rw (← loaded, refused)
 
-  pub no-memory : workload < WORKLOADS → (length memory ≡ SIZE → ⊥) → hosted 0 memory ≡ hostedOf workload budget memory
-  unfolding hostedOf hostedBy accepted _and_
-  no-memory h wrong = rw (lt-ltb workload WORKLOADS h, ne-eqb (length memory) SIZE wrong)
-
-  pub ran : {machine : Machine} {words after : List ℕ} {result : Ran} → workload < WORKLOADS → length memory ≡ SIZE
-      → machine ≡ workloadMachine
-      → words ≡ wordsOf workload
-      → record { result = result; memory = after } ≡ runOf machine words budget
-      → hosted (result .count) after ≡ hostedOf workload budget memory
-  unfolding hostedOf hostedBy accepted _and_
-  ran h fits made laid went =
-      rw (lt-ltb workload WORKLOADS h, eq-eqb (length memory) SIZE fits, ← made, ← laid) (ap (λ (w : Went). hostedRun w) went)
+  pub ran : (result : Loaded) {words after : List ℕ} {went : Ran} → leftByLoad result words ≡ loadOf image memory
+      → isDone (result .answer) ≡ true
+      → record { result = went; memory = after } ≡ runOf (result .machine) words budget
+      → hosted (went .count) after ≡ hostedOf image budget memory
+  unfolding hostedOf hostedBy
+  ran result loaded done is = rw (← loaded, done) (ap (λ (w : Went). hostedRun w) is)

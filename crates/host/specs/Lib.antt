@@ -1,4 +1,2 @@
--- What the library for hosts does: the workloads' programs, their memory and machine, and what a run of one leaves.
-pub mod Programs
-pub mod Workloads
+-- What the library for hosts leaves.
 pub mod Hosted

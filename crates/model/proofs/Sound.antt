@@ -19,7 +19,7 @@ use Rattle.model.proofs.Links.{fails-link, never-link, not-link, not-an
 use Rattle.model.proofs.Links.{every-link, every-of-link, every-of-two-link, ascending-link}
 use Rattle.model.proofs.Links.{ifLive-link, ifFull-link, isEmpty-link, ifOwned-link, keeps-link, holds-link, at-most-one, none-earlier}
 
-countsInRange-link : (n m : ℕ) → Link (countsInRange n m) (CountsInRange n m)
+pub countsInRange-link : (n m : ℕ) → Link (countsInRange n m) (CountsInRange n m)
 unfolding countsInRange
 countsInRange-link n m =
     (λ c. c .two-guests, leb-link)

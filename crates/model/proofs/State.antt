@@ -6,14 +6,17 @@ use native.Mathlib.Omega.{arith}
 use lib.ListN.{length, set, length-set}
 use lib.Seq.{getD-set-same, getD-set-other}
 use Rattle.model.specs.declared.VmId.{VmId}
+use Rattle.model.specs.declared.PageId.{PageId}
 use Rattle.model.specs.declared.Handle.{Handle}
 use Rattle.model.specs.declared.Registers.{Registers}
+use Rattle.model.specs.declared.Mailbox.{Mailbox}
 use Rattle.model.specs.declared.Inbox.{Inbox}
 use Rattle.model.specs.declared.InboxSlot.{InboxSlot}
+use Rattle.model.specs.declared.PageRecord.{PageRecord}
 use Rattle.model.specs.declared.Transaction.{Transaction}
 use Rattle.model.specs.declared.Machine.{Machine}
 use Rattle.model.specs.Constants.{GUESTS}
-use Rattle.model.specs.State.{registersAt, register, withRegister, written, inboxAt, withInbox, transactionAt}
+use Rattle.model.specs.State.{registersAt, register, withRegister, written, mailboxAt, inboxAt, withInbox, recordAt, transactionAt}
 use Rattle.model.specs.Shaped.{Shaped}
 
 -- Registers.
@@ -96,3 +99,21 @@ pub transaction-other : (transactions : List Transaction) (h k : Handle) (t : Tr
     → transactionAt (set transactions (h .0) t) k ≡ transactionAt transactions k
 unfolding transactionAt
 transaction-other transactions h k t l = getD-set-other transactions (h .0) (k .0) t _ l
+
+-- Mailboxes and page records.
+
+pub box-same : (boxes : List Mailbox) (g : VmId) (box : Mailbox) → g .0 < length boxes → mailboxAt (set boxes (g .0) box) g ≡ box
+unfolding mailboxAt
+box-same boxes g box h = getD-set-same boxes (g .0) box _ h
+
+pub box-other : (boxes : List Mailbox) (g k : VmId) (box : Mailbox) → (k .0 ≡ g .0 → ⊥) → mailboxAt (set boxes (g .0) box) k ≡ mailboxAt boxes k
+unfolding mailboxAt
+box-other boxes g k box h = getD-set-other boxes (g .0) (k .0) box _ h
+
+pub row-same : (rows : List PageRecord) (p : PageId) (row : PageRecord) → p .0 < length rows → recordAt (set rows (p .0) row) p ≡ row
+unfolding recordAt
+row-same rows p row h = getD-set-same rows (p .0) row _ h
+
+pub row-other : (rows : List PageRecord) (p q : PageId) (row : PageRecord) → (q .0 ≡ p .0 → ⊥) → recordAt (set rows (p .0) row) q ≡ recordAt rows q
+unfolding recordAt
+row-other rows p q row h = getD-set-other rows (p .0) (q .0) row _ h

@@ -1,7 +1,7 @@
 -- The laws of the tests and changes over numbers: what each tells where it passes or fails, and how to make it pass.
 use Prim.Native.Nat.{ℕ, zero, suc, _≤_, _<_}
 use mathlib.Core.Path.{_≡_, refl, sym, ap, _∙_}
-use mathlib.Core.Bool.{Bool, true, false, cond, false≢true}
+use mathlib.Core.Bool.{Bool, true, false, cond, false≢true, Bool·beq}
 use mathlib.Core.List.{List}
 use mathlib.Core.Logic.{_⊎_, inl, inr}
 use native.Mathlib.Nat.{eq-or-lt-of-le, le-of-suc-le-suc}
@@ -27,6 +27,14 @@ unfolding agree
 eq-agree {a = true} {b} p = sym p
 eq-agree {a = false} {b = true} p = p
 eq-agree {a = false} {b = false} p = refl
+
+-- the code compares two bools as `agree` does
+pub beq-agree : (a b : Bool) → Bool·beq a b ≡ agree a b
+unfolding agree
+beq-agree true true = refl
+beq-agree true false = refl
+beq-agree false true = refl
+beq-agree false false = refl
 
 -- tests of which each passes where the other does agree
 pub same-test : (a b : Bool) → (a ≡ true → b ≡ true) → (b ≡ true → a ≡ true) → a ≡ b

@@ -11,7 +11,6 @@ use native.Mathlib.Omega.{arith}
 use borrow.Author.Tests.{ltb-true, lt-ltb, le-ltb}
 use lib.Dec.{ltb}
 use lib.ListN.{length, set, length-set}
-use lib.Seq.{getD-set-same, getD-set-other}
 use Rattle.isa.specs.Tests.{_and_}
 use Rattle.isa.proofs.Tests.{not-both, cannot-pass, and-left, and-right, and-intro, and-false-right, or-either, or-false-left, or-false-right}
 use Rattle.model.specs.declared.PageId.{PageId}
@@ -30,6 +29,7 @@ use Rattle.model.specs.Due.{keeps, isMailbox, keeper, holds, holder, dueIn, due
 use Rattle.model.specs.Sound.{recordsDue}
 use Rattle.model.proofs.Tests.{at-some, some-at, first-passes, passes-first, before-first, length-setEach, setEach-in-order, every-same}
 use Rattle.model.proofs.Same.{samePage-true, eq-samePage}
+use Rattle.model.proofs.State.{row-same, row-other}
 use Rattle.model.proofs.Due.{held-at, due-mailbox, due-in, due-free}
 use Rattle.model.proofs.Sound.{mailboxesDiffer-link, noPageTwice-link}
 use Rattle.sound.specs.Rows.{freeRows, placeRow, boxRow, laid, dealOf, heldRows, boxRows, Usable}
@@ -51,14 +51,11 @@ laid-whole put rows h b e = rw (le-antisymm b h) e
 
 record-there : (rows : List PageRecord) (q p : PageId) (new : PageRecord) → samePage q p ≡ true → p .0 < length rows
     → recordAt (set rows (q .0) new) p ≡ new
-unfolding recordAt
-record-there rows q p new e fits = rw (samePage-true q p e) (getD-set-same rows (p .0) new _ fits)
+record-there rows q p new e fits = rw (samePage-true q p e) (row-same rows p new fits)
 
 record-elsewhere : (rows : List PageRecord) (q p : PageId) (new : PageRecord) → samePage q p ≡ false
     → recordAt (set rows (q .0) new) p ≡ recordAt rows p
-unfolding recordAt
-record-elsewhere rows q p new e =
-    getD-set-other rows (q .0) (p .0) new _ (λ same. not-both (eq-samePage (ap page (sym same))) e)
+record-elsewhere rows q p new e = row-other rows q p new (λ same. not-both (eq-samePage (ap page (sym same))) e)
 
 record-still : (rows : List PageRecord) (q p : PageId) (new : PageRecord) → recordAt rows p ≡ new → p .0 < length rows
     → recordAt (set rows (q .0) new) p ≡ new
