@@ -1,5 +1,7 @@
 // The call that the current guest makes: R0 chooses among the calls of `control`, `handles` and `offers`.
 
+#![tactic(auto)]
+
 ghost use Rattle.std.specs.Prelude.{◌≡◌, true, List, ℕ, ◌*◌, length};
 ghost use Rattle.model.specs.Constants.{PAGE};
 ghost use Rattle.model.specs.State.{state};
@@ -11,7 +13,7 @@ use model::{Kind, Machine};
 use parts::{codes, reply};
 
 // The kind of a sending, if the call is one.
-#[derive(Drop)]
+#[derive(Clone, Copy)]
 enum SomeKind {
     None,
     Kind(Kind),

@@ -1,6 +1,8 @@
 // The calls of control and of messages, by value: Run, Yield, Poll, Wait and Send, one function each in a file of its own.
 // Each takes a sound machine, and does what the model's effect of the same name says.
 
+#![tactic(auto)]
+
 mod copy;
 pub mod poll;
 pub mod run;

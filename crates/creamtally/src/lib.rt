@@ -1,6 +1,8 @@
 // The public face: what a host calls. Every entry takes any machine and any memory, tests them itself, and answers as the
 // model's definition of the same name says; none has a `requires`.
 
+#![tactic(auto)]
+
 mod modes;
 
 ghost use Rattle.std.specs.Prelude.{◌≡◌};

@@ -10,7 +10,7 @@ use crate::instruction;
 use crate::instruction::Stop;
 
 // What a burst leaves beside the registers and the memory: also what is left of the budget.
-#[derive(Drop)]
+#[derive(Clone, Copy)]
 pub struct Ended {
     pub pc: u32,
     pub equal: bool,

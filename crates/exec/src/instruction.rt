@@ -17,7 +17,7 @@ use crate::access;
 use isa::{Fields, codes};
 
 // How an instruction ends: the guest moved on, or what stopped it.
-#[derive(Drop)]
+#[derive(Clone, Copy)]
 pub enum Stop {
     Moved,
     Called,

@@ -2,6 +2,8 @@
 // call, a halt, a fault or the end of the budget. The loop holds the current guest's registers, its rights as two maps of
 // pages, and the memory; it never sees a machine.
 
+#![tactic(auto)]
+
 pub mod access;
 pub mod burst;
 pub mod instruction;

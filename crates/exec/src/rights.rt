@@ -7,7 +7,7 @@ ghost use Rattle.exec.specs.Maps.{with_page, pages_for};
 use model::{Mailbox, PageRecord, VmId};
 
 // The pages that a guest may fetch and load from, and those that it may store to.
-#[derive(Drop)]
+#[derive(Clone, Copy)]
 pub struct Maps {
     pub loads: u64,
     pub stores: u64,

@@ -9,7 +9,7 @@ use parts::numbers::SomeVm;
 use parts::{codes, numbers};
 
 // What a call leaves to be done once its caller's registers are as they should be.
-#[derive(Drop)]
+#[derive(Clone, Copy)]
 pub enum Switch {
     Other,
     Stay,

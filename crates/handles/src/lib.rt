@@ -2,6 +2,8 @@
 // look-up and over the deeds, which know neither caller nor registers. Each takes a sound machine, and does what the
 // model's effect of the same name says.
 
+#![tactic(auto)]
+
 pub mod deeds;
 mod lookup;
 pub mod reclaim;

@@ -12,7 +12,7 @@ use model::{Deal, Found, Handle, Life, Machine, Transaction};
 use parts::{codes, pages, reply};
 
 // How the tests end: they pass, or the first that fails gives its code.
-#[derive(Drop)]
+#[derive(Clone, Copy)]
 pub enum Verdict {
     Passes,
     Refused(u32),

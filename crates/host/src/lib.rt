@@ -2,6 +2,8 @@
 // `rt staticlib host`, and declare the function there; an image is a pointer and a length in bytes, lent memory a pointer and
 // a length in words.
 
+#![tactic(auto)]
+
 ghost use Rattle.std.specs.Prelude.{◌≡◌};
 ghost use Rattle.host.specs.Hosted.{hosted, hosted_of};
 

@@ -4,6 +4,8 @@
 //
 // An image is read twice: `judge` reads all of it and touches no memory, and only then does `lay` write words.
 
+#![tactic(auto)]
+
 mod bytes;
 mod contents;
 mod drafts;
@@ -23,7 +25,7 @@ use model::{
 };
 
 // A whole record: its kind, and where its payload begins and how many bytes that has.
-#[derive(Drop)]
+#[derive(Clone, Copy)]
 pub struct Record {
     pub kind: u16,
     pub payload: usize,
@@ -31,14 +33,14 @@ pub struct Record {
 }
 
 // What stands at an offset of an image: a whole record of an allowed kind, or nothing of the sort.
-#[derive(Drop)]
+#[derive(Clone, Copy)]
 pub enum Piece {
     Refused,
     Whole(Record),
 }
 
 // What a record says, its numbers as wide as the image has them. One whose payload has not its kind's form says nothing.
-#[derive(Drop)]
+#[derive(Clone, Copy)]
 pub enum Content {
     Nothing,
     Counts {
@@ -65,7 +67,7 @@ pub enum Content {
 }
 
 // What has been read so far: the machine, the guests that are described, and whether there was a budget, and which.
-#[derive(Drop)]
+#[derive(Clone, Copy)]
 pub struct Draft {
     pub machine: Machine,
     pub described: VmSet,
@@ -74,14 +76,14 @@ pub struct Draft {
 }
 
 // Whether an image is good, and then its budget, or else where the bad record starts.
-#[derive(Drop)]
+#[derive(Clone, Copy)]
 pub enum Verdict {
     Broken { offset: usize },
     Good { budget: u32 },
 }
 
 // An image judged: the machine of a good one, the blank one of a broken one.
-#[derive(Drop)]
+#[derive(Clone, Copy)]
 pub struct Judged {
     pub verdict: Verdict,
     pub machine: Machine,

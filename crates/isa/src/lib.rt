@@ -5,6 +5,8 @@
 // inner loop, which has no use for the meaning as a value. What they answer is defined in `specs/`, and their contracts
 // are equations with those definitions.
 
+#![tactic(auto)]
+
 pub mod codes;
 
 ghost use Rattle.std.specs.Prelude.{◌≡◌, true};
@@ -15,7 +17,7 @@ ghost use Rattle.isa.specs.Encode.{fields, parts_of, encode_of};
 
 // What a word tells the machine to do. d and s are register numbers, k a number of 16 bits. The types are wider than
 // the fields: a value that no word can hold is no instruction, and `encode` says so.
-#[derive(Drop)]
+#[derive(Clone, Copy)]
 pub enum Instruction {
     Movi(u8, u32),
     Movt(u8, u32),
@@ -33,7 +35,7 @@ pub enum Instruction {
 }
 
 // Which of the fields d, s and k an instruction has; `None` for a code that is no instruction's.
-#[derive(Drop)]
+#[derive(Clone, Copy)]
 pub enum Shape {
     None,
     DK,
@@ -43,7 +45,7 @@ pub enum Shape {
 }
 
 // The four fields of a word.
-#[derive(Drop)]
+#[derive(Clone, Copy)]
 pub struct Fields {
     pub code: u8,
     pub d: u8,
@@ -52,21 +54,21 @@ pub struct Fields {
 }
 
 // What a code stands for: the fields that its words have, and the instruction.
-#[derive(Drop)]
+#[derive(Clone, Copy)]
 pub struct Opcode {
     pub shape: Shape,
     pub means: Instruction,
 }
 
 // What `decode` answers.
-#[derive(Drop)]
+#[derive(Clone, Copy)]
 pub enum Decoded {
     NotInstruction,
     Meaning(Instruction),
 }
 
 // What `encode` answers.
-#[derive(Drop)]
+#[derive(Clone, Copy)]
 pub enum Encoded {
     NotInstruction,
     Word(u32),

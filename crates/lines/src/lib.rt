@@ -3,6 +3,8 @@
 // Each function writes at an offset and gives back the offset behind what it wrote. All that it asks for is room, and it takes
 // no more than that.
 
+#![tactic(auto)]
+
 mod numbers;
 mod words;
 

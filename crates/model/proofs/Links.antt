@@ -132,34 +132,40 @@ ascending_link = record { holds = ascending_at _ _; passes = at_ascending _ _ }
 pub if_live_link : {life : Life} {test : Deal → Bool} {Fact : Deal → Type 0}
     → ((d : Deal) → Link (test d) (Fact d)) → Link (if_live life test) ((d : Deal) → life ≡ Live d → Fact d)
 unfolding if_live
-if_live_link {life} x =
+if_live_link {life} {test} {Fact} x =
     record {
       holds = λ e d q. (x d).holds (rw q at e);
-      passes = elim life [ Free ↦ λ c. refl | Live d ↦ λ c. (x d).passes (c d refl) ];
+      passes =
+          elim life as (λ l. ((d : Deal) → l ≡ Live d → Fact d) → if_live l test ≡ true)
+          [ Free ↦ λ c. refl | Live d ↦ λ c. (x d).passes (c d refl) ];
     }
 
 pub if_full_link : {inbox : Inbox} {test : ℕ → VmId → Bool} {Fact : ℕ → VmId → Type 0}
     → ((length : ℕ) (sender : VmId) → Link (test length sender) (Fact length sender))
     → Link (if_full inbox test) ((length : ℕ) (sender : VmId) → inbox ≡ Full length sender → Fact length sender)
 unfolding if_full
-if_full_link {inbox} x =
+if_full_link {inbox} {test} {Fact} x =
     record {
       holds = λ e length sender q. (x length sender).holds (rw q at e);
-      passes = elim inbox [ Empty ↦ λ c. refl | Full length sender ↦ λ c. (x length sender).passes (c length sender refl) ];
+      passes =
+          elim inbox as (λ b. ((length : ℕ) (sender : VmId) → b ≡ Full length sender → Fact length sender) → if_full b test ≡ true)
+          [ Empty ↦ λ c. refl | Full length sender ↦ λ c. (x length sender).passes (c length sender refl) ];
     }
 
 pub is_empty_link : {inbox : Inbox} → Link (is_empty inbox) (inbox ≡ Empty)
 unfolding is_empty
 is_empty_link {inbox} =
-    record { holds = elim inbox [ Empty ↦ λ e. refl | Full length sender ↦ λ e. absurd (false≢true e) ]; passes = ap is_empty }
+    record { holds = elim inbox as (λ b. is_empty b ≡ true → b ≡ Empty) [ Empty ↦ λ e. refl | Full length sender ↦ λ e. absurd (false≢true e) ]; passes = ap is_empty }
 
 pub if_owned_link : {owner : Owner} {test : VmId → Bool} {Fact : VmId → Type 0}
     → ((g : VmId) → Link (test g) (Fact g)) → Link (if_owned owner test) ((g : VmId) → owner ≡ Guest g → Fact g)
 unfolding if_owned
-if_owned_link {owner} x =
+if_owned_link {owner} {test} {Fact} x =
     record {
       holds = λ e g q. (x g).holds (rw q at e);
-      passes = elim owner [ Nobody ↦ λ c. refl | Guest g ↦ λ c. (x g).passes (c g refl) ];
+      passes =
+          elim owner as (λ o. ((g : VmId) → o ≡ Guest g → Fact g) → if_owned o test ≡ true)
+          [ Nobody ↦ λ c. refl | Guest g ↦ λ c. (x g).passes (c g refl) ];
     }
 
 -- A fact about each page of a mailbox or of a transaction.

@@ -4,24 +4,26 @@
 // Nothing here tests a range. A value of these types may be any machine at all; whether it is a sound one is for
 // `specs/Sound.antt` to say.
 
+#![tactic(auto)]
+
 // The number of a guest. Numbers of guests, pages and handles are kept apart: none stands where another is due.
-#[derive(Drop)]
+#[derive(Clone, Copy)]
 pub struct VmId(pub u8);
 
 // The number of a page.
-#[derive(Drop)]
+#[derive(Clone, Copy)]
 pub struct PageId(pub u8);
 
 // The number that a transaction is known by.
-#[derive(Drop)]
+#[derive(Clone, Copy)]
 pub struct Handle(pub u8);
 
 // A set of guests: bit g is set if guest g is in it.
-#[derive(Drop)]
+#[derive(Clone, Copy)]
 pub struct VmSet(pub u8);
 
 // A guest's register file.
-#[derive(Drop)]
+#[derive(Clone, Copy)]
 pub struct Registers {
     pub r: [u32; 8],
     pub pc: u32,
@@ -29,34 +31,34 @@ pub struct Registers {
 }
 
 // A guest's mailbox pages. It writes TX and reads RX.
-#[derive(Drop)]
+#[derive(Clone, Copy)]
 pub struct Mailbox {
     pub tx: PageId,
     pub rx: PageId,
 }
 
 // The RX state: what waits in a guest's RX page.
-#[derive(Drop)]
+#[derive(Clone, Copy)]
 pub enum Inbox {
     Empty,
     Full { length: u32, sender: VmId },
 }
 
 // An inbox in a place of the machine.
-#[derive(Drop)]
+#[derive(Clone, Copy)]
 pub struct InboxSlot {
     pub inbox: Inbox,
 }
 
 // Whose a page is. Lending and sharing leave the owner.
-#[derive(Drop)]
+#[derive(Clone, Copy)]
 pub enum Owner {
     Nobody,
     Guest(VmId),
 }
 
 // What the machine keeps of a page.
-#[derive(Drop)]
+#[derive(Clone, Copy)]
 pub struct PageRecord {
     pub owner: Owner,
     pub access: VmSet,
@@ -64,7 +66,7 @@ pub struct PageRecord {
 }
 
 // How pages are sent.
-#[derive(Drop)]
+#[derive(Clone, Copy)]
 pub enum Kind {
     Donate,
     Lend,
@@ -72,7 +74,7 @@ pub enum Kind {
 }
 
 // A live transaction, but for its pages.
-#[derive(Drop)]
+#[derive(Clone, Copy)]
 pub struct Deal {
     pub sender: VmId,
     pub receiver: VmId,
@@ -82,21 +84,21 @@ pub struct Deal {
 }
 
 // Whether a handle is in use, and for what.
-#[derive(Drop)]
+#[derive(Clone, Copy)]
 pub enum Life {
     Free,
     Live(Deal),
 }
 
 // A handle's place in the machine. The pages stand beside the enum; those from the deal's count on are spare.
-#[derive(Drop)]
+#[derive(Clone, Copy)]
 pub struct Transaction {
     pub life: Life,
     pub pages: [PageId; 8],
 }
 
 // Whether the machine goes on. Only a normal one takes a step or a call.
-#[derive(Drop)]
+#[derive(Clone, Copy)]
 pub enum Mode {
     Normal,
     Fault,
@@ -104,7 +106,7 @@ pub enum Mode {
 }
 
 // The whole machine but for its memory, which is lent. Laid out by what changes together.
-#[derive(Drop)]
+#[derive(Clone, Copy)]
 pub struct Machine {
     pub n: u8,
     pub m: u8,
@@ -118,14 +120,14 @@ pub struct Machine {
 }
 
 // What the look-up of a handle word finds.
-#[derive(Drop)]
+#[derive(Clone, Copy)]
 pub enum Found {
     Nothing,
     Live(Handle, Deal),
 }
 
 // What the access check says of an address.
-#[derive(Drop)]
+#[derive(Clone, Copy)]
 pub enum Access {
     Allowed,
     Outside,
@@ -134,7 +136,7 @@ pub enum Access {
 }
 
 // What an entry answers, apart from decoding and encoding; `specs/Answer.antt` has the numbers.
-#[derive(Drop)]
+#[derive(Clone, Copy)]
 pub enum Answer {
     Done,
     WrongMemory,
@@ -144,14 +146,14 @@ pub enum Answer {
 }
 
 // What a step and a call give back.
-#[derive(Drop)]
+#[derive(Clone, Copy)]
 pub struct Stepped {
     pub answer: Answer,
     pub machine: Machine,
 }
 
 // What a run gives back: also the number of steps taken.
-#[derive(Drop)]
+#[derive(Clone, Copy)]
 pub struct Ran {
     pub answer: Answer,
     pub machine: Machine,
@@ -159,14 +161,14 @@ pub struct Ran {
 }
 
 // The call that a run came to, if it came to one: who made it, and its R0 before.
-#[derive(Drop)]
+#[derive(Clone, Copy)]
 pub enum NextCall {
     None,
     Made { caller: VmId, r0: u32 },
 }
 
 // What a run up to the next call gives back.
-#[derive(Drop)]
+#[derive(Clone, Copy)]
 pub struct RanToCall {
     pub answer: Answer,
     pub machine: Machine,
@@ -175,7 +177,7 @@ pub struct RanToCall {
 }
 
 // What loading an image gives back: also the image's budget, and where the bad record of a broken one starts.
-#[derive(Drop)]
+#[derive(Clone, Copy)]
 pub struct Loaded {
     pub answer: Answer,
     pub machine: Machine,

@@ -14,14 +14,14 @@ use parts::numbers::{SomePage, SomeVm};
 use parts::{numbers, pages};
 
 // The pages that a descriptor names, and whether each of them is one.
-#[derive(Drop)]
+#[derive(Clone, Copy)]
 struct Listed {
     pub good: bool,
     pub pages: [PageId; 8],
 }
 
 // What a descriptor asks for, if it is a good one.
-#[derive(Drop)]
+#[derive(Clone, Copy)]
 pub struct Proposal {
     pub good: bool,
     pub receiver: VmId,

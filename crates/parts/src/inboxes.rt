@@ -7,6 +7,7 @@ ghost use Rattle.model.specs.State.{mailbox_at, inbox_at, with_inbox, is_empty, 
 use model::{Inbox, InboxSlot, Mailbox, VmId};
 
 // What waits for guest g.
+#[tactic(auto, unfolding(model::specs::State::inbox_at))]
 pub fn inbox_at(slots: [InboxSlot; 8], g: VmId) -> Inbox
     requires { g.0 < GUESTS }
     ensures { result ≡ inbox_at slots g }
@@ -30,6 +31,7 @@ pub fn with_inbox(slots: [InboxSlot; 8], g: VmId, inbox: Inbox) -> [InboxSlot; 8
 }
 
 // Whether nothing waits.
+#[tactic(auto, unfolding(model::specs::State::is_empty))]
 pub fn is_empty(inbox: Inbox) -> bool
     ensures { result ≡ is_empty inbox }
 {
@@ -43,6 +45,7 @@ pub fn is_empty(inbox: Inbox) -> bool
 }
 
 // How many words wait; none in an empty inbox.
+#[tactic(auto, unfolding(model::specs::State::length_of))]
 pub fn length_of(inbox: Inbox) -> u32
     ensures { result ≡ length_of inbox }
 {
@@ -53,6 +56,7 @@ pub fn length_of(inbox: Inbox) -> u32
 }
 
 // The sender; guest 0 of an empty inbox.
+#[tactic(auto, unfolding(model::specs::State::sender_of))]
 pub fn sender_of(inbox: Inbox) -> VmId
     ensures { result ≡ sender_of inbox }
 {
@@ -63,6 +67,7 @@ pub fn sender_of(inbox: Inbox) -> VmId
 }
 
 // The mailbox pages of guest g.
+#[tactic(auto, unfolding(model::specs::State::mailbox_at))]
 pub fn mailbox_at(boxes: [Mailbox; 8], g: VmId) -> Mailbox
     requires { g.0 < GUESTS }
     ensures { result ≡ mailbox_at boxes g }

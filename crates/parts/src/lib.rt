@@ -7,6 +7,8 @@
 // Nothing else in the code makes a row or asks about a kind, and a guest's word becomes a number of a guest or a page in
 // `numbers` only; a handle's is tested where its transaction is looked up.
 
+#![tactic(auto)]
+
 pub mod codes;
 pub mod inboxes;
 pub mod numbers;
@@ -26,6 +28,7 @@ use model::{Deal, Kind, Owner, PageRecord, VmId, VmSet};
 // Numbers of guests.
 
 // Whether the two are one guest.
+#[tactic(auto, unfolding(model::specs::State::same_vm))]
 pub fn same_vm(g: VmId, k: VmId) -> bool
     ensures { result ≡ same_vm g k }
 {
@@ -33,6 +36,7 @@ pub fn same_vm(g: VmId, k: VmId) -> bool
 }
 
 // Whether g is guest 0.
+#[tactic(auto, unfolding(model::specs::State::is_primary, model::specs::State::same_vm))]
 pub fn is_primary(g: VmId) -> bool
     ensures { result ≡ is_primary g }
 {
@@ -42,6 +46,7 @@ pub fn is_primary(g: VmId) -> bool
 // Sets of guests.
 
 // Whether guest g is in the set.
+#[tactic(auto, unfolding(model::specs::VmSet::has))]
 pub fn has(g: VmId, set: VmSet) -> bool
     requires { g.0 < GUESTS }
     ensures { result ≡ has g set }
@@ -50,6 +55,7 @@ pub fn has(g: VmId, set: VmSet) -> bool
 }
 
 // The set of guest g alone.
+#[tactic(auto, unfolding(model::specs::VmSet::only))]
 pub fn only(g: VmId) -> VmSet
     requires { g.0 < GUESTS }
     ensures { result ≡ only g }
@@ -58,6 +64,7 @@ pub fn only(g: VmId) -> VmSet
 }
 
 // The set with guest g in it; the bit is added only if it is clear, so the sum fits.
+#[tactic(auto, unfolding(model::specs::VmSet::only, model::specs::VmSet::with))]
 pub fn with(g: VmId, set: VmSet) -> VmSet
     requires { g.0 < GUESTS }
     ensures { result ≡ with g set }
@@ -71,6 +78,7 @@ pub fn with(g: VmId, set: VmSet) -> VmSet
 // Kinds.
 
 // The number of a kind in a descriptor.
+#[tactic(auto, unfolding(model::specs::Row::kind_number))]
 pub fn kind_number(kind: Kind) -> u32
     ensures { result ≡ kind_number kind }
 {
@@ -82,6 +90,7 @@ pub fn kind_number(kind: Kind) -> u32
 }
 
 // Whether the sender keeps its access.
+#[tactic(auto, unfolding(model::specs::Row::shares))]
 pub fn shares(kind: Kind) -> bool
     ensures { result ≡ shares kind }
 {
@@ -93,6 +102,7 @@ pub fn shares(kind: Kind) -> bool
 }
 
 // Whether the pages change their owner at the retrieve.
+#[tactic(auto, unfolding(model::specs::Row::donates))]
 pub fn donates(kind: Kind) -> bool
     ensures { result ≡ donates kind }
 {
@@ -106,6 +116,7 @@ pub fn donates(kind: Kind) -> bool
 // Parties of a transaction.
 
 // Whether g is the sender.
+#[tactic(auto, unfolding(model::specs::Row::sends))]
 pub fn sends(d: Deal, g: VmId) -> bool
     ensures { result ≡ sends d g }
 {
@@ -113,6 +124,7 @@ pub fn sends(d: Deal, g: VmId) -> bool
 }
 
 // Whether g is the receiver.
+#[tactic(auto, unfolding(model::specs::Row::receives))]
 pub fn receives(d: Deal, g: VmId) -> bool
     ensures { result ≡ receives d g }
 {
@@ -120,6 +132,7 @@ pub fn receives(d: Deal, g: VmId) -> bool
 }
 
 // Those to whom a transaction's pages have gone.
+#[tactic(auto, unfolding(model::specs::Row::holders))]
 pub fn holders(d: Deal) -> VmSet
     requires { d.receiver.0 < GUESTS }
     ensures { result ≡ holders d }
@@ -134,6 +147,7 @@ pub fn holders(d: Deal) -> VmSet
 // Rows.
 
 // A mailbox page of guest g.
+#[tactic(auto, unfolding(model::specs::Row::mailbox_row))]
 pub fn mailbox_row(g: VmId) -> PageRecord
     requires { g.0 < GUESTS }
     ensures { result ≡ mailbox_row g }
@@ -146,6 +160,7 @@ pub fn mailbox_row(g: VmId) -> PageRecord
 }
 
 // A page in no transaction: its owner's, or spare.
+#[tactic(auto, unfolding(model::specs::Row::free_row))]
 pub fn free_row(owner: Owner) -> PageRecord
     requires { if_owned owner (λ g. ltb g.0 GUESTS) ≡ true }
     ensures { result ≡ free_row owner }
@@ -161,6 +176,7 @@ pub fn free_row(owner: Owner) -> PageRecord
 }
 
 // A page in no transaction that guest g owns.
+#[tactic(auto, unfolding(model::specs::Row::free_row))]
 pub fn owned_row(g: VmId) -> PageRecord
     requires { g.0 < GUESTS }
     ensures { result ≡ owned_row g }
@@ -197,6 +213,7 @@ pub fn row(d: Deal) -> PageRecord
 // Whether two records are the same.
 
 // Whether the two pages have one owner, or both have none.
+#[tactic(auto, unfolding(model::specs::Row::same_owner))]
 pub fn same_owner(a: Owner, b: Owner) -> bool
     ensures { result ≡ same_owner a b }
 {
@@ -213,6 +230,7 @@ pub fn same_owner(a: Owner, b: Owner) -> bool
 }
 
 // Whether owner, access and mark are all the same; `&` tests each, with no branch.
+#[tactic(auto, unfolding(model::specs::Row::same_record, model::specs::VmSet::same_set))]
 pub fn same_record(a: PageRecord, b: PageRecord) -> bool
     ensures { result ≡ same_record a b }
 {

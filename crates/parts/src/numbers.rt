@@ -7,14 +7,14 @@ ghost use Rattle.parts.specs.Numbers.{vm_of, page_at_base};
 use model::{PageId, VmId};
 
 // The guest that a word names, if it names one.
-#[derive(Drop)]
+#[derive(Clone, Copy)]
 pub enum SomeVm {
     Nobody,
     Vm(VmId),
 }
 
 // The page that starts at an address, if one does.
-#[derive(Drop)]
+#[derive(Clone, Copy)]
 pub enum SomePage {
     Nowhere,
     Page(PageId),
@@ -31,6 +31,7 @@ pub fn vm_of(w: u32, n: u8) -> SomeVm
 }
 
 // The page that starts at this address, of m.
+#[tactic(auto, unfolding(model::specs::Sending::is_base, crate::specs::Numbers::page_at_base))]
 pub fn page_at_base(x: u32, m: u8) -> SomePage
     ensures { result ≡ page_at_base x m }
 {

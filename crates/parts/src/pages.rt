@@ -11,6 +11,7 @@ ghost use Rattle.parts.specs.Reached.{Reached};
 use model::{Life, PageId, PageRecord, Transaction};
 
 // How many pages a transaction has: a free one has none.
+#[tactic(auto, unfolding(model::specs::State::count_in, model::specs::State::count_of))]
 pub fn count_of(t: Transaction) -> u8
     ensures { result ≡ count_of t }
 {
@@ -22,6 +23,7 @@ pub fn count_of(t: Transaction) -> u8
 }
 
 // The records with a new one at each page of the transaction.
+#[tactic(auto, unfolding(model::specs::State::page_at, model::specs::Deeds::recorded))]
 pub fn recorded(records: [PageRecord; 64], t: Transaction, new: PageRecord) -> [PageRecord; 64]
     requires { Reached t }
     ensures { result ≡ recorded records t new }
@@ -39,6 +41,7 @@ pub fn recorded(records: [PageRecord; 64], t: Transaction, new: PageRecord) -> [
 }
 
 // Each of the first count pages has this record.
+#[tactic(auto, unfolding(model::specs::State::record_at))]
 pub fn all_have(records: [PageRecord; 64], count: u8, pages: [PageId; 8], due: PageRecord) -> bool
     requires { (count ≤ PLACES) × ((i : ℕ) → i < count → (get_or pages i (page 0)).0 < PAGES) }
     ensures { result ≡ every count (λ i. same_record (record_at records (get_or pages i (page 0))) due) }

@@ -7,6 +7,7 @@ ghost use Rattle.model.specs.State.{registers_at, register, written};
 use model::{Registers, VmId};
 
 // Register i of guest g.
+#[tactic(auto, unfolding(model::specs::State::register, model::specs::State::registers_at))]
 pub fn register(files: [Registers; 8], g: VmId, i: usize) -> u32
     requires { (g.0 < GUESTS) × (i < 8) }
     ensures { result ≡ register (registers_at files g) i }
@@ -17,6 +18,7 @@ pub fn register(files: [Registers; 8], g: VmId, i: usize) -> u32
 }
 
 // The files with v in register i of guest g.
+#[tactic(auto, unfolding(model::specs::State::registers_at, model::specs::State::written))]
 pub fn written(files: [Registers; 8], g: VmId, i: usize, v: u32) -> [Registers; 8]
     requires { (g.0 < GUESTS) × (i < 8) }
     ensures { result ≡ written files g i v }

@@ -9,6 +9,7 @@ use crate::{codes, registers};
 use model::{Machine, VmId};
 
 // A register of the caller.
+#[tactic(auto, unfolding(model::specs::State::argument, model::specs::State::own_registers))]
 pub fn argument(machine: Machine, i: usize) -> u32
     requires { (machine.current.0 < GUESTS) × (i < 8) }
     ensures { result ≡ argument machine i }
@@ -33,6 +34,7 @@ pub fn with_error(machine: Machine, code: u32) -> Machine
 }
 
 // Success in the caller's R0.
+#[tactic(auto, unfolding(model::specs::Reply::succeeded))]
 pub fn succeeded(machine: Machine) -> Machine
     requires { machine.current.0 < GUESTS }
     ensures { result ≡ succeeded machine }
@@ -46,6 +48,7 @@ pub fn succeeded(machine: Machine) -> Machine
 }
 
 // Guest 0 is current. If a secondary called, guest 0's R0 says which call it was, and its R1 who called.
+#[tactic(auto, unfolding(model::specs::Reply::handed_over))]
 pub fn handed_over(machine: Machine, why: u32) -> Machine
     ensures { result ≡ handed_over machine why }
 {

@@ -1,5 +1,7 @@
 // A run from call to call: bursts of instructions, and the calls between them, over one machine that is changed in place.
 
+#![tactic(auto)]
+
 ghost use Rattle.std.specs.Prelude.{◌≡◌, ℕ, ◌*◌, true, List, length};
 ghost use Rattle.model.specs.Constants.{PAGE};
 ghost use Rattle.model.specs.State.{state, with_mode, is_normal};
@@ -15,7 +17,7 @@ use model::{Machine, Mode, NextCall, Registers, VmId};
 use parts::codes;
 
 // What a run leaves: also what is left of its budget, and the call that ended it, if one did.
-#[derive(Drop)]
+#[derive(Clone, Copy)]
 pub struct Advanced {
     pub machine: Machine,
     pub left: u32,

@@ -2,6 +2,8 @@
 // counted from 1, it prints a line `image K` and what the bench prints. It ends where the input ends or is cut short, and at a
 // length above 65,537.
 
+#![tactic(auto)]
+
 ghost use Rattle.std.specs.Prelude.{◌≡◌, length};
 
 // A number of four bytes, the lowest first.

@@ -6,7 +6,7 @@ ghost use Rattle.show.specs.Course.{course_of};
 use image::Verdict;
 
 // It is too large, or its machine's memory is; or it is broken, at this offset; or its machine has so many pages, and runs.
-#[derive(Drop)]
+#[derive(Clone, Copy)]
 pub enum Course {
     TooLarge,
     Faulty { offset: usize },

@@ -1,6 +1,8 @@
 // What the bench prints of an image, for any bytes: the refusals in their order, or the run's lines. What is written is text
 // of `lines`; how far the run goes and what it leaves is `creamtally`'s run.
 
+#![tactic(auto)]
+
 mod course;
 mod run;
 

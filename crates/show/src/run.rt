@@ -12,7 +12,7 @@ ghost use Rattle.show.specs.Told.{PutPiece};
 use model::{Machine, NextCall, VmId};
 
 // What a run came to: the number of its steps, and the machine.
-#[derive(Drop)]
+#[derive(Clone, Copy)]
 pub struct Ending {
     pub steps: u32,
     pub machine: Machine,
@@ -20,7 +20,7 @@ pub struct Ending {
 
 // A piece of a run's text: where it ends in the buffer, the machine and what is left of the budget behind it, and whether
 // more is to come.
-#[derive(Drop)]
+#[derive(Clone, Copy)]
 pub struct Piece {
     pub end: usize,
     pub machine: Machine,

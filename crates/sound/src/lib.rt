@@ -2,6 +2,8 @@
 // part of the machine that the clause is about; each takes the parts that it reads. The whole is linear in the pages, the
 // guests, and the handles with their places, in what is copied too: a loop hands on single items and references.
 
+#![tactic(auto)]
+
 mod blank;
 mod counts;
 mod deals;
