@@ -8,7 +8,6 @@ pub mod Paste
 pub mod Links
 pub mod Sound
 pub mod Shaped
--- pub mod Typed
 pub mod Reply
 pub mod Entries
 pub mod Send
