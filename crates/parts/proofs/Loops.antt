@@ -1,12 +1,11 @@
 -- The laws of loops that count up: one that tests every number, and one that sets the values at n places.
 use Prim.Native.Nat.{ℕ, ◌+◌, ◌≤◌, ◌<◌}
 use mathlib.Core.Path.{◌≡◌, refl, sym, ◌∙◌}
-use mathlib.Core.Bool.{Bool, true, false, not}
+use mathlib.Core.Bool.{Bool, true, false}
 use mathlib.Core.List.{List}
 use native.Mathlib.Nat.{le_antisymm}
 use native.Mathlib.Numerals.{add-one}
 use lib.ListN.{set}
-use borrow.Author.Tests.{not-true, not-false}
 use Rattle.isa.proofs.Tests.{not_both, cannot_pass, and_intro}
 use Rattle.model.specs.Tests.{every, set_each}
 use Rattle.model.proofs.Tests.{every_at}
@@ -27,13 +26,13 @@ every_stops f h p = cannot_pass (λ e. not_both (every_at _ f e _ h) p)
 pub every_whole : {i n : ℕ} (f : ℕ → Bool) → i ≤ n → n ≤ i → every i f ≡ true → every n f ≡ true
 every_whole f h l e = rw (le_antisymm l h) e
 
--- the same where the loop asks a function, whose answer r is the test of i, and stops at `if !r`
+-- the same where the loop asks a function, whose answer r is the test of i, and stops where it fails
 
-pub asked_stops : {i n : ℕ} {r : Bool} (f : ℕ → Bool) → i < n → r ≡ f i → not r ≡ true → false ≡ every n f
-asked_stops f b asked e = sym (every_stops f b (sym asked ∙ not-true _ e))
+pub asked_stops : {i n : ℕ} {r : Bool} (f : ℕ → Bool) → i < n → r ≡ f i → r ≡ false → false ≡ every n f
+asked_stops f b asked e = sym (every_stops f b (sym asked ∙ e))
 
-pub asked_more : (i : ℕ) {r : Bool} (f : ℕ → Bool) → every i f ≡ true → r ≡ f i → not r ≡ false → every (i + 1) f ≡ true
-asked_more i f passed asked e = every_more i f passed (sym asked ∙ not-false _ e)
+pub asked_more : (i : ℕ) {r : Bool} (f : ℕ → Bool) → every i f ≡ true → r ≡ f i → r ≡ true → every (i + 1) f ≡ true
+asked_more i f passed asked e = every_more i f passed (sym asked ∙ e)
 
 pub asked_whole : {i n : ℕ} (f : ℕ → Bool) → (i ≤ n) × (every i f ≡ true) → n ≤ i → true ≡ every n f
 asked_whole f inv end = sym (every_whole f inv.0 end inv.1)
