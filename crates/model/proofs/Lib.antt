@@ -8,6 +8,7 @@ pub mod Paste
 pub mod Links
 pub mod Sound
 pub mod Shaped
+pub mod Typed
 pub mod Reply
 pub mod Entries
 pub mod Send
