@@ -5,6 +5,7 @@ ghost use Rattle.lines.specs.Laid.{Laid};
 ghost use Rattle.lines.specs.Text.{glyph_of, digits, places_of, decimal, hex8};
 
 // The code of a digit.
+#[tactic(auto, unfolding(crate::specs::Text::glyph_of))]
 fn glyph(d: usize) -> u8
     requires { d < 16 }
     ensures { result ≡ glyph_of d }

@@ -21,6 +21,7 @@ pub fn put_text(out: &mut [u8], at: usize, text: &[u8]) -> usize
 }
 
 // The word of a mode, at most six letters, and the end of the line.
+#[tactic(auto, unfolding(crate::specs::Text::mode_word))]
 pub fn put_mode(out: &mut [u8], at: usize, mode: Mode) -> usize
     requires { at + 7 ≤ length out.old }
     ensures { Laid out.old at (mode_word mode ++ newline) out.new result }
