@@ -9,6 +9,7 @@ use borrow.Author.Tests.{eqb-true, eqb-false, le-leb, lt-leb}
 use Rattle.isa.specs.Tests.{◌and◌}
 use Rattle.isa.proofs.Tests.{and_intro, and_false, true_not, false_not}
 use Rattle.parts.specs.Numbers.{vm_of}
+use Rattle.parts.specs.declared.numbers.SomeVm.{SomeVm}
 use Rattle.parts.specs.declared.numbers.SomeVm.TheVariants.{Nobody, Vm}
 use Rattle.model.specs.declared.VmId.{VmId}
 use Rattle.model.specs.declared.Registers.{Registers}
@@ -39,6 +40,11 @@ word_of_secondary w e = let other : w ≡ 0 → ⊥ = eqb-false w 0 e in le-leb 
 -- an inbox, read and then tested
 pub inbox_tested : {inbox there : Inbox} {b : Bool} → b ≡ is_empty inbox → inbox ≡ there → is_empty there ≡ b
 inbox_tested test read = rw (← read) (sym test)
+
+-- whom R1 names, as it is read and then looked up
+pub word_named : (m : Machine) {read : ℕ} {found guest : SomeVm} → read ≡ argument m 1 → found ≡ vm_of read m.n → found ≡ guest
+    → vm_of (argument m 1) m.n ≡ guest
+word_named m read look is = rw (← read, ← look) is
 
 -- a message taken, step by step
 pub message_taken :

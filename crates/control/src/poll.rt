@@ -10,6 +10,7 @@ use model::{Inbox, Machine};
 use parts::{codes, inboxes, registers, reply};
 
 // What waits for the caller.
+#[tactic(auto, unfolding(model::specs::State::own_inbox))]
 pub fn own_inbox(machine: Machine) -> Inbox
     requires { machine.current.0 < GUESTS }
     ensures { result ≡ own_inbox machine }

@@ -35,6 +35,7 @@ fn delivered(machine: Machine, receiver: VmId, words: u32) -> Machine
 }
 
 // Guest 0 is current. If a secondary called, it learns of the message, from whom and for whom.
+#[tactic(auto, unfolding(model::specs::Send::notified))]
 fn notified(machine: Machine, receiver: VmId) -> Machine
     ensures { result ≡ notified machine receiver }
 {
@@ -51,6 +52,7 @@ fn notified(machine: Machine, receiver: VmId) -> Machine
 }
 
 // The first words of the page tx over those of the page rx, which is lent to the copier.
+#[tactic(auto, unfolding(model::specs::Memory::base_of))]
 fn copied(mem: &mut [u32], tx: PageId, rx: PageId, words: usize)
     requires { (words ≤ PAGE) × (base_of tx + PAGE ≤ length mem.old) × (base_of rx + PAGE ≤ length mem.old) }
     ensures { mem.new ≡ paste mem.old (base_of rx) (drop (base_of tx) mem.old) words }
@@ -77,7 +79,8 @@ pub fn send(machine: Machine, mem: &mut [u32]) -> Machine
         return reply::with_error(machine, codes::INVALID);
     }
     let slots = machine.inboxes;
-    if !inboxes::is_empty(inboxes::inbox_at(slots, receiver)) {
+    let busy = !inboxes::is_empty(inboxes::inbox_at(slots, receiver));
+    if busy {
         return reply::with_error(machine, codes::BUSY);
     }
     let boxes = machine.mailboxes;
