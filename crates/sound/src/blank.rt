@@ -10,6 +10,7 @@ ghost use Rattle.model.specs.Sound.{blank_guest, guests_blank, pages_blank, plac
 use model::{Inbox, InboxSlot, Mailbox, Owner, PageRecord, Registers, Transaction};
 
 // All eight registers are zero.
+#[tactic(auto, unfolding(model::specs::State::register))]
 fn registers_zero(file: Registers) -> bool
     ensures { result ≡ every 8 (λ i. eqb (register file i) 0) }
 {
@@ -24,6 +25,7 @@ fn registers_zero(file: Registers) -> bool
 }
 
 // Nothing is kept of this guest.
+#[tactic(auto, unfolding(model::specs::Sound::blank_guest, model::specs::State::same_page))]
 fn blank_guest(file: Registers, mailbox: Mailbox, inbox: Inbox) -> bool
     ensures { result ≡ blank_guest file mailbox inbox }
 {
@@ -34,6 +36,7 @@ fn blank_guest(file: Registers, mailbox: Mailbox, inbox: Inbox) -> bool
 }
 
 // Every guest from n on is blank.
+#[tactic(auto, unfolding(model::specs::Sound::guests_blank, model::specs::State::inbox_at, model::specs::State::mailbox_at, model::specs::State::registers_at))]
 pub fn guests_blank(
     n: u8,
     files: [Registers; 8],
@@ -57,6 +60,7 @@ pub fn guests_blank(
 }
 
 // Every page from m on has the record of a spare page.
+#[tactic(auto, unfolding(model::specs::Sound::if_owned, model::specs::Sound::pages_blank, model::specs::State::record_at))]
 pub fn pages_blank(m: u8, records: [PageRecord; 64]) -> bool
     ensures { result ≡ pages_blank m records }
 {
@@ -73,6 +77,7 @@ pub fn pages_blank(m: u8, records: [PageRecord; 64]) -> bool
 }
 
 // Every page slot from the transaction's count on is zero.
+#[tactic(auto, unfolding(model::specs::State::page_at, model::specs::State::same_page))]
 fn spare_blank(t: Transaction) -> bool
     ensures { result ≡ every PLACES (λ i. ltb i (count_of t) or same_page (page_at t i) (page 0)) }
 {
@@ -89,6 +94,7 @@ fn spare_blank(t: Transaction) -> bool
 }
 
 // The spare slots of every transaction are zero; of a free one all are spare.
+#[tactic(auto, unfolding(model::specs::Sound::places_blank, model::specs::State::transaction_at))]
 pub fn places_blank(transactions: [Transaction; 16]) -> bool
     ensures { result ≡ places_blank transactions }
 {

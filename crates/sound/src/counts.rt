@@ -8,6 +8,7 @@ ghost use Rattle.model.specs.Sound.{if_live, counts_in_range, page_counts_in_ran
 use model::{Life, Transaction};
 
 // 2 to 8 guests, and pages for two mailboxes each up to 64.
+#[tactic(auto, unfolding(model::specs::Sound::counts_in_range))]
 pub fn counts_in_range(n: u8, m: u8) -> bool
     ensures { result ≡ counts_in_range n m }
 {
@@ -15,6 +16,7 @@ pub fn counts_in_range(n: u8, m: u8) -> bool
 }
 
 // A live transaction has 1 to 8 pages.
+#[tactic(auto, unfolding(model::specs::Sound::if_live))]
 fn page_count_in_range(life: Life) -> bool
     ensures { result ≡ if_live life (λ d. leb 1 d.count and leb d.count PLACES) }
 {
@@ -25,6 +27,7 @@ fn page_count_in_range(life: Life) -> bool
 }
 
 // So for every handle.
+#[tactic(auto, unfolding(model::specs::Sound::each_deal, model::specs::Sound::page_counts_in_range, model::specs::State::transaction_at))]
 pub fn page_counts_in_range(transactions: [Transaction; 16]) -> bool
     ensures { result ≡ page_counts_in_range transactions }
 {

@@ -9,6 +9,7 @@ ghost use Rattle.model.specs.Sound.{if_live, parties_differ, parties_below, no_d
 use model::{Life, Transaction};
 
 // Nobody deals with itself.
+#[tactic(auto, unfolding(model::specs::Sound::if_live))]
 fn two_parties(life: Life) -> bool
     ensures { result ≡ if_live life (λ d. not (same_vm d.sender d.receiver)) }
 {
@@ -23,6 +24,7 @@ fn two_parties(life: Life) -> bool
 }
 
 // So for every handle.
+#[tactic(auto, unfolding(model::specs::Sound::each_deal, model::specs::Sound::parties_differ, model::specs::State::transaction_at))]
 pub fn parties_differ(transactions: [Transaction; 16]) -> bool
     ensures { result ≡ parties_differ transactions }
 {
@@ -39,6 +41,7 @@ pub fn parties_differ(transactions: [Transaction; 16]) -> bool
 }
 
 // Both parties are among the n guests.
+#[tactic(auto, unfolding(model::specs::Sound::if_live))]
 fn both_below(n: u8, life: Life) -> bool
     ensures { result ≡ if_live life (λ d. ltb d.sender.0 n and ltb d.receiver.0 n) }
 {
@@ -49,6 +52,7 @@ fn both_below(n: u8, life: Life) -> bool
 }
 
 // So for every handle.
+#[tactic(auto, unfolding(model::specs::Sound::each_deal, model::specs::Sound::parties_below, model::specs::State::transaction_at))]
 pub fn parties_below(n: u8, transactions: [Transaction; 16]) -> bool
     ensures { result ≡ parties_below n transactions }
 {
@@ -65,6 +69,7 @@ pub fn parties_below(n: u8, transactions: [Transaction; 16]) -> bool
 }
 
 // A donation has no retrieved mark: retrieved, it is done with.
+#[tactic(auto, unfolding(model::specs::Sound::if_live))]
 fn no_retrieved_donation(life: Life) -> bool
     ensures { result ≡ if_live life (λ d. not (donates d.kind and d.retrieved)) }
 {
@@ -78,6 +83,7 @@ fn no_retrieved_donation(life: Life) -> bool
 }
 
 // So for every handle.
+#[tactic(auto, unfolding(model::specs::Sound::each_deal, model::specs::Sound::no_donation_retrieved, model::specs::State::transaction_at))]
 pub fn no_donation_retrieved(transactions: [Transaction; 16]) -> bool
     ensures { result ≡ no_donation_retrieved transactions }
 {

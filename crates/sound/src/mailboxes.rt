@@ -8,6 +8,7 @@ use crate::marks;
 use model::Mailbox;
 
 // Each guest's pages are two, and neither is marked already by a guest before it.
+#[tactic(auto, unfolding(crate::specs::Marks::box_marks, model::specs::State::mailbox_at, model::specs::Sound::mailboxes_differ))]
 pub fn mailboxes_differ(n: u8, boxes: [Mailbox; 8]) -> bool
     requires { (n ≤ GUESTS) × (mailboxes_below n PAGES boxes ≡ true) }
     ensures { result ≡ mailboxes_differ n boxes }
@@ -26,6 +27,7 @@ pub fn mailboxes_differ(n: u8, boxes: [Mailbox; 8]) -> bool
 }
 
 // Each guest's two pages are among the m pages.
+#[tactic(auto, unfolding(model::specs::State::mailbox_at, model::specs::Sound::mailboxes_below))]
 pub fn mailboxes_below(n: u8, m: u8, boxes: [Mailbox; 8]) -> bool
     requires { n ≤ GUESTS }
     ensures { result ≡ mailboxes_below n m boxes }

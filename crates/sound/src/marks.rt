@@ -13,6 +13,7 @@ ghost use Rattle.sound.specs.Marks.{marked, with_box, box_marks, with_held};
 use model::{Mailbox, Transaction};
 
 // A guest's two pages differ, and neither is marked.
+#[tactic(auto, unfolding(crate::specs::Marks::marked, model::specs::State::same_page))]
 pub fn fresh_box(seen: &[bool; 64], mailbox: Mailbox) -> bool
     requires { (mailbox.tx.0 < PAGES) × (mailbox.rx.0 < PAGES) }
     ensures { result ≡ (not (same_page mailbox.tx mailbox.rx) and not (marked seen.now mailbox.tx) and not (marked seen.now mailbox.rx)) }
@@ -23,6 +24,7 @@ pub fn fresh_box(seen: &[bool; 64], mailbox: Mailbox) -> bool
 }
 
 // A guest's mailbox pages are marked too.
+#[tactic(auto, unfolding(crate::specs::Marks::with_box))]
 pub fn mark_box(seen: &mut [bool; 64], mailbox: Mailbox)
     requires { (mailbox.tx.0 < PAGES) × (mailbox.rx.0 < PAGES) }
     ensures { seen.new ≡ with_box seen.old mailbox }
@@ -34,6 +36,7 @@ pub fn mark_box(seen: &mut [bool; 64], mailbox: Mailbox)
 }
 
 // The marks of the n guests' mailbox pages.
+#[tactic(auto, unfolding(crate::specs::Marks::box_marks, model::specs::State::mailbox_at))]
 pub fn box_marks(n: u8, boxes: [Mailbox; 8]) -> [bool; 64]
     requires { (n ≤ GUESTS) × (mailboxes_below n PAGES boxes ≡ true) }
     ensures { result ≡ box_marks n boxes }
@@ -49,6 +52,7 @@ pub fn box_marks(n: u8, boxes: [Mailbox; 8]) -> [bool; 64]
 }
 
 // None of a transaction's pages is marked.
+#[tactic(auto, unfolding(crate::specs::Marks::marked, model::specs::State::page_at))]
 pub fn fresh_pages(seen: &[bool; 64], t: Transaction) -> bool
     requires { Reached t }
     ensures { result ≡ every (count_of t) (λ i. not (marked seen.now (page_at t i))) }
@@ -68,6 +72,7 @@ pub fn fresh_pages(seen: &[bool; 64], t: Transaction) -> bool
 }
 
 // A transaction's pages are marked too.
+#[tactic(auto, unfolding(model::specs::State::page_at, crate::specs::Marks::with_held))]
 pub fn mark_held(seen: &mut [bool; 64], t: Transaction)
     requires { Reached t }
     ensures { seen.new ≡ with_held seen.old t }

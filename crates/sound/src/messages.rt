@@ -9,6 +9,7 @@ ghost use Rattle.model.specs.Sound.{if_full, lengths_in_range, senders_below, no
 use model::{Inbox, InboxSlot, VmId};
 
 // A waiting message has 1 to 1,024 words.
+#[tactic(auto, unfolding(model::specs::Sound::if_full))]
 fn length_in_range(inbox: Inbox) -> bool
     ensures { result ≡ if_full inbox (λ length sender. leb 1 length and leb length PAGE) }
 {
@@ -19,6 +20,7 @@ fn length_in_range(inbox: Inbox) -> bool
 }
 
 // So for every guest.
+#[tactic(auto, unfolding(model::specs::Sound::each_message, model::specs::State::inbox_at, model::specs::Sound::lengths_in_range))]
 pub fn lengths_in_range(n: u8, inboxes: [InboxSlot; 8]) -> bool
     requires { n ≤ GUESTS }
     ensures { result ≡ lengths_in_range n inboxes }
@@ -36,6 +38,7 @@ pub fn lengths_in_range(n: u8, inboxes: [InboxSlot; 8]) -> bool
 }
 
 // The sender of a waiting message is among the n guests.
+#[tactic(auto, unfolding(model::specs::Sound::if_full))]
 fn sender_below(n: u8, inbox: Inbox) -> bool
     ensures { result ≡ if_full inbox (λ length sender. ltb sender.0 n) }
 {
@@ -46,6 +49,7 @@ fn sender_below(n: u8, inbox: Inbox) -> bool
 }
 
 // So for every guest.
+#[tactic(auto, unfolding(model::specs::Sound::each_message, model::specs::State::inbox_at, model::specs::Sound::senders_below))]
 pub fn senders_below(n: u8, inboxes: [InboxSlot; 8]) -> bool
     requires { n ≤ GUESTS }
     ensures { result ≡ senders_below n inboxes }
@@ -63,6 +67,7 @@ pub fn senders_below(n: u8, inboxes: [InboxSlot; 8]) -> bool
 }
 
 // Guest g did not write to itself.
+#[tactic(auto, unfolding(model::specs::Sound::if_full))]
 fn not_own_sender(g: VmId, inbox: Inbox) -> bool
     ensures { result ≡ if_full inbox (λ length sender. not (same_vm sender g)) }
 {
@@ -73,6 +78,7 @@ fn not_own_sender(g: VmId, inbox: Inbox) -> bool
 }
 
 // So for every guest.
+#[tactic(auto, unfolding(model::specs::Sound::each_message, model::specs::State::inbox_at, model::specs::Sound::no_own_sender))]
 pub fn no_own_sender(n: u8, inboxes: [InboxSlot; 8]) -> bool
     requires { n ≤ GUESTS }
     ensures { result ≡ no_own_sender n inboxes }

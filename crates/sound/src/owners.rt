@@ -7,6 +7,7 @@ ghost use Rattle.model.specs.Sound.{if_owned, owners_below};
 use model::{Owner, PageRecord};
 
 // The owner, if there is one, is among the n guests.
+#[tactic(auto, unfolding(model::specs::Sound::if_owned))]
 fn owner_below(n: u8, owner: Owner) -> bool
     ensures { result ≡ if_owned owner (λ g. ltb g.0 n) }
 {
@@ -17,6 +18,7 @@ fn owner_below(n: u8, owner: Owner) -> bool
 }
 
 // So for every page.
+#[tactic(auto, unfolding(model::specs::Sound::owners_below, model::specs::State::record_at))]
 pub fn owners_below(n: u8, m: u8, records: [PageRecord; 64]) -> bool
     requires { m ≤ PAGES }
     ensures { result ≡ owners_below n m records }

@@ -10,6 +10,7 @@ use crate::marks;
 use model::{Mailbox, Transaction};
 
 // Each page of the transaction is below the next.
+#[tactic(auto, unfolding(model::specs::Tests::ascending, model::specs::State::page_at))]
 fn ascends(t: Transaction) -> bool
     requires { count_of t ≤ PLACES }
     ensures { result ≡ ascending (count_of t) (λ i. (page_at t i).0) }
@@ -27,6 +28,7 @@ fn ascends(t: Transaction) -> bool
 }
 
 // So for every handle.
+#[tactic(auto, unfolding(model::specs::Sound::pages_ascend, model::specs::State::transaction_at))]
 pub fn pages_ascend(transactions: [Transaction; 16]) -> bool
     requires { page_counts_in_range transactions ≡ true }
     ensures { result ≡ pages_ascend transactions }
@@ -43,6 +45,7 @@ pub fn pages_ascend(transactions: [Transaction; 16]) -> bool
 }
 
 // Each page of the transaction is among the m pages.
+#[tactic(auto, unfolding(model::specs::State::page_at))]
 fn all_below(m: u8, t: Transaction) -> bool
     requires { count_of t ≤ PLACES }
     ensures { result ≡ every (count_of t) (λ i. ltb (page_at t i).0 m) }
@@ -60,6 +63,7 @@ fn all_below(m: u8, t: Transaction) -> bool
 }
 
 // So for every handle.
+#[tactic(auto, unfolding(model::specs::Sound::each_page, model::specs::Sound::pages_below, model::specs::State::transaction_at))]
 pub fn pages_below(m: u8, transactions: [Transaction; 16]) -> bool
     requires { page_counts_in_range transactions ≡ true }
     ensures { result ≡ pages_below m transactions }
@@ -76,6 +80,7 @@ pub fn pages_below(m: u8, transactions: [Transaction; 16]) -> bool
 }
 
 // No page of a transaction has a mailbox's mark.
+#[tactic(auto, unfolding(model::specs::Sound::each_page, model::specs::State::transaction_at))]
 pub fn pages_no_mailbox(n: u8, boxes: [Mailbox; 8], transactions: [Transaction; 16]) -> bool
     requires { (n ≤ GUESTS) × (mailboxes_below n PAGES boxes ≡ true) × (page_counts_in_range transactions ≡ true) × (pages_below PAGES transactions ≡ true) }
     ensures { result ≡ pages_no_mailbox n boxes transactions }
@@ -93,6 +98,7 @@ pub fn pages_no_mailbox(n: u8, boxes: [Mailbox; 8], transactions: [Transaction; 
 }
 
 // No page of a transaction has the mark of a transaction before it.
+#[tactic(auto, unfolding(crate::specs::Marks::held_marks, model::specs::Sound::no_page_twice, model::specs::State::transaction_at))]
 pub fn no_page_twice(transactions: [Transaction; 16]) -> bool
     requires { (page_counts_in_range transactions ≡ true) × (pages_below PAGES transactions ≡ true) }
     ensures { result ≡ no_page_twice transactions }

@@ -11,6 +11,7 @@ ghost use Rattle.sound.specs.Rows.{free_rows, Held, held_rows, box_rows, Usable}
 use model::{Life, Mailbox, Owner, PageRecord, Transaction, VmId};
 
 // Each of the m pages by its owner, as if it were used for nothing.
+#[tactic(auto, unfolding(crate::specs::Rows::free_rows, model::specs::State::record_at))]
 fn free_rows(n: u8, m: u8, records: [PageRecord; 64]) -> [PageRecord; 64]
     requires { (n ≤ GUESTS) × (m ≤ PAGES) × (owners_below n m records ≡ true) }
     ensures { result ≡ free_rows m records }
@@ -27,6 +28,7 @@ fn free_rows(n: u8, m: u8, records: [PageRecord; 64]) -> [PageRecord; 64]
 }
 
 // The row of a transaction's pages; a free one has none, and gets that of a spare page.
+#[tactic(auto, unfolding(model::specs::Due::due_in, model::specs::Sound::if_owned))]
 fn held_row(t: Transaction) -> PageRecord
     requires { Held t }
     ensures { result ≡ due_in t.life Nobody }
@@ -39,6 +41,7 @@ fn held_row(t: Transaction) -> PageRecord
 }
 
 // Over them, the pages of the transactions: for each place of each, if it is in use, one record.
+#[tactic(auto, unfolding(crate::specs::Rows::held_rows, crate::specs::Rows::laid, model::specs::State::page_at, model::specs::State::transaction_at))]
 fn held_rows(transactions: [Transaction; 16], rows: [PageRecord; 64]) -> [PageRecord; 64]
     requires { (page_counts_in_range transactions ≡ true) × (parties_below GUESTS transactions ≡ true) × (pages_below PAGES transactions ≡ true) }
     ensures { result ≡ held_rows (HANDLES * PLACES) transactions rows }
@@ -59,6 +62,7 @@ fn held_rows(transactions: [Transaction; 16], rows: [PageRecord; 64]) -> [PageRe
 }
 
 // Over those, the mailbox pages.
+#[tactic(auto, unfolding(crate::specs::Rows::box_row, crate::specs::Rows::box_rows, crate::specs::Rows::laid, model::specs::State::mailbox_at))]
 fn box_rows(n: u8, boxes: [Mailbox; 8], rows: [PageRecord; 64]) -> [PageRecord; 64]
     requires { (n ≤ GUESTS) × (mailboxes_below n PAGES boxes ≡ true) }
     ensures { result ≡ box_rows n boxes rows }
@@ -94,6 +98,7 @@ pub fn due_records(
 }
 
 // Each of the m records is the one due.
+#[tactic(auto, unfolding(model::specs::State::record_at))]
 pub fn records_due(
     n: u8,
     m: u8,

@@ -1,0 +1,13 @@
+-- The loop's invariant: the first h transactions pass. The measure is how many are left.
+use Rattle.std.proofs.Common.{not, true, ◌-◌, ◌≡◌, ◌≤◌}
+use Rattle.model.specs.Constants.{HANDLES}
+use Rattle.model.specs.Sound.{if_live}
+use Rattle.model.specs.State.{handle, same_vm, transaction_at}
+use Rattle.model.specs.Tests.{every}
+use Rattle.sound.proofs.deals.parties_differ.Given as goal
+
+abbrev pub invariant-loop-h : goal.invariant-loop-h
+invariant-loop-h l = (l.h ≤ HANDLES) × (every l.h (λ k. if_live (transaction_at l.transactions (handle k)).life (λ d. not (same_vm d.sender d.receiver))) ≡ true)
+
+abbrev pub decreases-loop-h : goal.decreases-loop-h
+decreases-loop-h l = HANDLES - l.h
