@@ -1,7 +1,7 @@
 -- What an instruction leaves, from what the code did: a register that is set, a jump, a comparison, an access that is denied
 -- or allowed, a word that is an instruction or none.
-use Rattle.std.proofs.Common.{◌≡◌, ℕ, ◌<◌, Bool, true, false, not, eqb, List, length, get_or, set, sym, refl, ap, ◌∙◌, eqb-true}
-use borrow.Author.Tests.{eqb-false, not-true, not-false}
+use Rattle.std.proofs.Common.{◌≡◌, ℕ, zero, suc, ◌<◌, ◌≤◌, Bool, true, false, eqb, List, length, get_or, set, sym, refl, ap, ◌∙◌, arith, eqb-true}
+use borrow.Author.Tests.{eqb-false}
 use Rattle.isa.specs.declared.Fields.{Fields}
 use Rattle.isa.specs.declared.Opcode.{Opcode}
 use Rattle.isa.specs.declared.Instruction.{Instruction}
@@ -33,6 +33,10 @@ pub legal_k : (f : Fields) → legal f ≡ true → f.k < 65536
 legal_k f e = (legal_bounded f e).k
 
 -- A code that is none of 1 to 12 means halt.
+
+pub none_from : (n x : ℕ) → (x ≤ n → x ≡ 0) → NoneOf n x
+none_from zero x h = tt
+none_from (suc n) x h = (none_from n x (λ l. h (omega arith)), λ e. omega (arith, h (omega arith)))
 
 pub halts : (f : Fields) → NoneOf 12 f.code → (opcode_at f).means ≡ Halt
 unfolding opcode_at opcodes
@@ -114,26 +118,26 @@ module _ (rights : Rights) (file : Registers) (memory : List ℕ) {stop : Stop} 
   unfolding performs perform ends advanced
   equal_stays s e did = rw (did.0, did.1, e)
 
--- The code asks a test, and goes on unless the answer is false.
+-- The code asks a test, and goes on if the answer is true.
 
-pub passes : {b t : Bool} → b ≡ t → not b ≡ false → t ≡ true
-passes {b} e h = sym e ∙ not-false b h
+pub passes : {b t : Bool} → b ≡ t → b ≡ true → t ≡ true
+passes e h = sym e ∙ h
 
-pub fails : {b t : Bool} → b ≡ t → not b ≡ true → t ≡ false
-fails {b} e h = sym e ∙ not-true b h
+pub fails : {b t : Bool} → b ≡ t → b ≡ false → t ≡ false
+fails e h = sym e ∙ h
 
-pub asked_inside : (map words x : ℕ) {b : Bool} → b ≡ may_reach map words x → not b ≡ false → x < words
+pub asked_inside : (map words x : ℕ) {b : Bool} → b ≡ may_reach map words x → b ≡ true → x < words
 asked_inside map words x e h = reach_inside map words x (passes e h)
 
 -- it asks for y, which is x
 module _ (map : ℕ) (memory : List ℕ) (x : ℕ) {y : ℕ} {b : Bool} (same : y ≡ x) (e : b ≡ may_reach map (length memory) y) where
-  pub asked_true : (move : Move) → not b ≡ false → if_allowed (access (allowed_by map) memory x) move ≡ move
+  pub asked_true : (move : Move) → b ≡ true → if_allowed (access (allowed_by map) memory x) move ≡ move
   asked_true move h = reach_true map memory x move (rw (← same) (passes e h))
 
   pub asked_false :
       (file : Registers) (move : Move) {kept : List ℕ} →
       kept ≡ file.r →
-      not b ≡ true →
+      b ≡ false →
       turn Faulted (file_of kept file.pc file.equal) memory ≡ ends (if_allowed (access (allowed_by map) memory x) move) file memory
   unfolding ends
   asked_false file move whole h = rw (reach_false map memory x move (rw (← same) (fails e h)), whole)
@@ -143,7 +147,7 @@ module _
     (loads stores : ℕ) (file : Registers) (memory : List ℕ) {f : Fields} {b : Bool}
     (same : f ≡ fields_of (fetched file memory))
     (e : b ≡ may_reach loads (length memory) file.pc)
-    (h : not b ≡ false)
+    (h : b ≡ true)
   where
     pub word_faults : legal f ≡ false → turn Faulted file memory ≡ turn_of (by_maps loads stores) file memory
     unfolding turn_of guest_step execute decode_of meaning_of ends

@@ -1,7 +1,6 @@
 -- One instruction leaves the memory as long as it was. And the laws of the inner loop: it goes on, it stops, its budget is spent.
-use Rattle.std.proofs.Common.{◌≡◌, ℕ, zero, suc, ◌-◌, ◌<◌, ◌≤◌, Bool, true, false, not, List, length, sym, refl, ap, ◌∙◌, true≢false, arith, length-set}
+use Rattle.std.proofs.Common.{◌≡◌, ℕ, zero, suc, ◌-◌, ◌<◌, ◌≤◌, Bool, true, false, List, length, sym, refl, ap, ◌∙◌, true≢false, arith, length-set}
 use mathlib.Core.Bool.{false≢true}
-use borrow.Author.Tests.{not-true, not-false}
 use Rattle.isa.specs.declared.Instruction.{Instruction}
 use Rattle.isa.specs.declared.Instruction.TheVariants.{Movi, Movt, Mov, Ldr, Str, Add, Sub, Addi, Cmp, Bne, Br, Hvc, Halt}
 use Rattle.isa.specs.declared.Decoded.{Decoded}
@@ -92,22 +91,22 @@ stays Called t left rest e = refl
 stays Faulted t left rest e = refl
 stays Halted t left rest e = refl
 
--- a loop that asks whether the guest moved on, with the answer r: it goes on, it stops at `if !r`, its budget is spent
+-- a loop that asks whether the guest moved on, with the answer r: it goes on, it stops, its budget is spent
 
 pub burst_more : {stop : Stop} {next : Registers} {after : List ℕ} {r : Bool}
     (rights : Rights) (left : ℕ) (file : Registers) (memory : List ℕ)
-    → 0 < left → turn stop next after ≡ turn_of rights file memory → r ≡ is_moved stop → not r ≡ false
+    → 0 < left → turn stop next after ≡ turn_of rights file memory → r ≡ is_moved stop → r ≡ true
     → burst_of rights (left - 1) next after ≡ burst_of rights left file memory
 burst_more {stop} rights left file memory h taken asked e =
-    moves_on stop _ (left - 1) (burst_of rights (left - 1)) (sym asked ∙ not-false _ e)
+    moves_on stop _ (left - 1) (burst_of rights (left - 1)) (sym asked ∙ e)
     ∙ burst_turn stop rights left file memory h taken
 
 pub burst_stops : {stop : Stop} {next : Registers} {after : List ℕ} {r : Bool}
     (rights : Rights) (left : ℕ) (file : Registers) (memory : List ℕ)
-    → 0 < left → turn stop next after ≡ turn_of rights file memory → r ≡ is_moved stop → not r ≡ true
+    → 0 < left → turn stop next after ≡ turn_of rights file memory → r ≡ is_moved stop → r ≡ false
     → burst (turn stop next after) (left - 1) ≡ burst_of rights left file memory
 burst_stops {stop} rights left file memory h taken asked e =
-    stays stop _ (left - 1) _ (sym asked ∙ not-true _ e) ∙ burst_turn stop rights left file memory h taken
+    stays stop _ (left - 1) _ (sym asked ∙ e) ∙ burst_turn stop rights left file memory h taken
 
 pub burst_spent : (rights : Rights) (left : ℕ) (file : Registers) (memory : List ℕ) → left ≤ 0
     → burst (turn Moved file memory) 0 ≡ burst_of rights left file memory

@@ -19,6 +19,7 @@ pub struct Ended {
 }
 
 // Whether the guest goes on.
+#[tactic(auto, unfolding(crate::specs::Burst::is_moved))]
 fn is_moved(stop: Stop) -> bool
     ensures { result ≡ is_moved stop }
 {

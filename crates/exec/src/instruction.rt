@@ -26,18 +26,21 @@ pub enum Stop {
 }
 
 // The sum and the difference of two words, and the low half of a with k for the high half.
+#[tactic(auto, unfolding(model::specs::State::plus))]
 fn plus(a: u32, b: u32) -> u32
     ensures { result ≡ plus a b }
 {
     std::num::wrapping_add_u32(a, b)
 }
 
+#[tactic(auto, unfolding(model::specs::Execute::minus))]
 fn minus(a: u32, b: u32) -> u32
     ensures { result ≡ minus a b }
 {
     std::num::wrapping_sub_u32(a, b)
 }
 
+#[tactic(auto, unfolding(model::specs::Execute::topped))]
 fn topped(a: u32, k: u32) -> u32
     requires { k < 65536 }
     ensures { result ≡ topped a k }
@@ -135,6 +138,7 @@ fn compares(r: &mut [u32; 8], pc: &mut u32, equal: &mut bool, d: u8, s: u8) -> S
 }
 
 // What the instruction with these fields does.
+#[tactic(auto, using(crate::proofs::Moves::legal_d, crate::proofs::Moves::legal_s, crate::proofs::Moves::legal_k))]
 fn perform(
     f: Fields,
     r: &mut [u32; 8],

@@ -14,6 +14,7 @@ pub struct Maps {
 }
 
 // A map with one page more in front of it.
+#[tactic(auto, unfolding(crate::specs::Maps::with_page))]
 fn with_page(map: u64, allowed: bool) -> u64
     requires { map < 2 ^ 63 }
     ensures { result ≡ with_page map allowed }

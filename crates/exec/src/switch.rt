@@ -18,6 +18,7 @@ pub enum Switch {
 }
 
 // An error: R0 and R2, and nothing else.
+#[tactic(auto, unfolding(crate::specs::Switch::refused_with))]
 fn refused(r: &mut [u32; 8], code: u32) -> Switch
     ensures { switched result r.new ≡ refused_with r.old code }
 {
