@@ -1,14 +1,15 @@
 -- The laws of cutting a record out of the bytes, and of what it says.
 use Prim.Native.Nat.{ℕ, ◌+◌, ◌*◌, ◌-◌, ◌/◌, ◌%◌, ◌≤◌, ◌<◌}
 use mathlib.Core.Path.{◌≡◌, refl, sym, ap, ◌∙◌}
-use mathlib.Core.Bool.{Bool, true, false, not, cond}
+use mathlib.Core.Bool.{Bool, true, false, cond}
 use mathlib.Core.List.{List}
 use native.Mathlib.Nat.{le_antisymm}
 use native.Mathlib.Numerals.{add-one}
 use native.Mathlib.Omega.{arith}
 use lib.ListN.{length, get_or}
 use lib.Dec.{eqb, leb}
-use borrow.Author.Tests.{leb-true, eqb-true, le-leb, lt-leb, eq-eqb, ne_eqb, not-true, not-false}
+use borrow.Author.Tests.{leb-true, eqb-true, le-leb, lt-leb, eq-eqb, ne_eqb}
+use Rattle.isa.specs.Tests.{◌and◌}
 use Rattle.isa.proofs.Tests.{and_left, and_right, and_intro, and_false, or_false, not_both, cond_left}
 use Rattle.model.specs.Tests.{some}
 use Rattle.model.proofs.Tests.{at_some}
@@ -67,12 +68,12 @@ pub cut_unknown :
     (kinds bytes : List ℕ) (at : ℕ) {kind : ℕ} {b : Bool} →
     kind ≡ number_at bytes (at + 2) →
     b ≡ among kinds kind →
-    not b ≡ true →
+    b ≡ false →
     cut kinds bytes at ≡ Refused
 unfolding record_from end_of cut
 cut_unknown kinds bytes at its-kind told e =
     rw (← its-kind)
-    (rw (and_false (leb (at + 4 + number_at bytes at) (length bytes)) _ (λ q. sym told ∙ not-true _ e)))
+    (rw (and_false (leb (at + 4 + number_at bytes at) (length bytes)) _ (λ q. sym told ∙ e)))
 
 -- any other is
 pub cut_taken :
@@ -81,11 +82,11 @@ pub cut_taken :
     size ≡ number_at bytes at →
     at + 4 + size ≤ length bytes →
     b ≡ among kinds kind →
-    not b ≡ false →
+    b ≡ true →
     cut kinds bytes at ≡ Whole (record { kind = kind; payload = at + 4; size = size })
 unfolding record_from end_of cut
 cut_taken kinds bytes at its-kind its-size fits told e =
-    rw (← its-size, ← its-kind) (rw (and_intro (le-leb _ (length bytes) fits) (sym told ∙ not-false _ e)))
+    rw (← its-size, ← its-kind) (rw (and_intro (le-leb _ (length bytes) fits) (sym told ∙ e)))
 
 -- a whole record begins behind its four bytes, and ends inside the image
 pub cut_whole :
@@ -94,8 +95,11 @@ pub cut_whole :
     (r.payload ≡ at + 4) × (end_of r ≤ length bytes)
 unfolding record_from cut
 cut_whole kinds bytes at {r} e =
-    let taken = cond_left _ (Whole (record_from bytes at)) Refused (Whole r) (λ q. cc) e in
-    let same : record_from bytes at ≡ r = cc taken.1 in
+    let kept : Bool = leb (end_of (record_from bytes at)) (length bytes) and among kinds (record_from bytes at).kind in
+    let taken : (kept ≡ true) × (Whole (record_from bytes at) ≡ Whole r) =
+    cond_left kept (Whole (record_from bytes at)) Refused (Whole r) (λ q. cc) e
+    in
+    let same : record_from bytes at ≡ r = cc in
     let inside : end_of (record_from bytes at) ≤ length bytes = leb-true _ _ (and_left _ _ taken.0) in
     (sym (ap (λ (x : Record). x.payload) same), rw same at inside)
 

@@ -26,7 +26,7 @@ use Rattle.model.specs.declared.Mode.TheVariants.{Normal}
 use Rattle.model.specs.declared.Machine.{Machine}
 use Rattle.model.specs.Constants.{GUESTS, PAGES, HANDLES}
 use Rattle.model.specs.State.{vm, page, primary, registers_at, mailbox_at, record_at}
-use Rattle.model.specs.VmSet.{has, none, with}
+use Rattle.model.specs.VmSet.{has, with}
 use Rattle.model.specs.Row.{mailbox_row, free_row, owned_row}
 use Rattle.model.specs.Due.{keeps}
 use Rattle.model.specs.Deeds.{freed}
@@ -37,7 +37,7 @@ use Rattle.model.proofs.Same.{eq_same_vm, same_vm_true, eq_same_page, same_page_
 use Rattle.model.proofs.Members.{has_none, has_with}
 use Rattle.model.proofs.State.{file_same, file_other, box_same, box_other, row_same, row_other}
 use Rattle.model.proofs.Sound.{counts_in_range_link}
-use Rattle.model.proofs.Links.{Link, ltb_link, leb_link, eqb_link, same_record_link, fails_link, not_link, ◌also◌, ◌make◌}
+use Rattle.model.proofs.Links.{Link, ltb_link, eqb_link, same_record_link, fails_link, not_link, ◌also◌, ◌make◌}
 use Rattle.image.specs.declared.Record.{Record}
 use Rattle.image.specs.declared.Piece.{Piece}
 use Rattle.image.specs.declared.Piece.TheVariants.{Refused, Whole}

@@ -1,7 +1,7 @@
 -- What the proofs of reading share: the counts of a draft stay in range, record by record; which way a test of a record goes;
 -- and that the numbers of a record that fits are numbers of guests and pages.
 use Prim.Native.Nat.{ℕ, ◌+◌, ◌*◌, ◌-◌, ◌≤◌, ◌<◌}
-use mathlib.Core.Path.{◌≡◌, refl}
+use mathlib.Core.Path.{◌≡◌}
 use mathlib.Core.Bool.{Bool, true, false, not, beq}
 use mathlib.Core.List.{List}
 use native.Mathlib.Omega.{arith}

@@ -92,12 +92,12 @@ judged_here {bytes} {at} {d} j h is = sym (judged_turn j.more bytes at d h j.eno
 -- a record that may stand is taken, and it goes on behind it
 pub judging_goes_on : {bytes : List ℕ} {at : ℕ} {d next : Draft} {piece : Piece} {r : Record} {content : Content} {asked : Bool}
     → Judging bytes at d → at < length bytes → piece ≡ cut image_kinds bytes at → piece ≡ Whole r → content ≡ content_of bytes r
-    → asked ≡ may_stand at d content → not asked ≡ false → next ≡ taken d content
+    → asked ≡ may_stand at d content → asked ≡ true → next ≡ taken d content
     → Judging bytes (r.payload + r.size) next
 unfolding end_of tried follow
 judging_goes_on {bytes} {at} {d} {next} {piece} {r} {content} j h is whole says asks stands takes =
     let place = cut_inside bytes at is whole in
-    let may : may_stand at d content ≡ true = sym asks ∙ not-false _ stands in
+    let may : may_stand at d content ≡ true = sym asks ∙ stands in
     let here : follow (tried bytes at d (Whole r)) (judged_from (j.more - 1) bytes) ≡ judged_of bytes = rw whole at (judged_here j h is) in
     record {
       inside = place.1;
@@ -116,11 +116,11 @@ judging_stops j h is none e = e ∙ (rw none at (judged_here j h is))
 
 pub judging_refuses : {bytes : List ℕ} {at : ℕ} {d : Draft} {piece : Piece} {r : Record} {content : Content} {asked : Bool} {told : Judged}
     → Judging bytes at d → at < length bytes → piece ≡ cut image_kinds bytes at → piece ≡ Whole r → content ≡ content_of bytes r
-    → asked ≡ may_stand at d content → not asked ≡ true → told ≡ broken at
+    → asked ≡ may_stand at d content → asked ≡ false → told ≡ broken at
     → told ≡ judged_of bytes
 unfolding tried follow
 judging_refuses {at = at} {d = d} {content = content} j h is whole says asks refuses e =
-    let may : may_stand at d content ≡ false = sym asks ∙ not-true _ refuses in
+    let may : may_stand at d content ≡ false = sym asks ∙ refuses in
     e ∙ (rw (whole, ← says, may) at (judged_here j h is))
 
 -- at the image's end, whatever number of turns is left

@@ -11,6 +11,7 @@ fn wide(byte: u8) -> u16
 }
 
 // The number at an offset.
+#[tactic(auto, unfolding(crate::specs::Bytes::byte_at, crate::specs::Bytes::number_at))]
 pub fn number(bytes: &[u8], at: usize) -> u16
     requires { at + 2 ≤ length bytes.now }
     ensures { result ≡ number_at bytes.now at }
@@ -19,6 +20,7 @@ pub fn number(bytes: &[u8], at: usize) -> u16
 }
 
 // The word at an offset.
+#[tactic(auto, unfolding(crate::specs::Bytes::word_at))]
 pub fn word(bytes: &[u8], at: usize) -> u32
     requires { at + 4 ≤ length bytes.now }
     ensures { result ≡ word_at bytes.now at }

@@ -9,6 +9,7 @@ use crate::{Content, Draft};
 use model::{Mailbox, Mode, Owner, PageId, PageRecord, VmId, VmSet};
 
 // Before the first record.
+#[tactic(auto, unfolding(crate::specs::Drafts::begun))]
 pub fn begun() -> Draft
     ensures { result ≡ begun }
 {
@@ -30,6 +31,7 @@ fn counts_fit(n: u16, m: u16) -> bool
 }
 
 // Whether this is a page, of m, that has no use so far.
+#[tactic(auto, unfolding(model::specs::Sound::if_owned))]
 fn unused(m: u8, records: [PageRecord; 64], p: u16) -> bool
     requires { m ≤ PAGES }
     ensures { result ≡ unused m records p }
@@ -95,6 +97,7 @@ fn complete(n: u8, described: VmSet) -> bool
 }
 
 // By its kind.
+#[tactic(auto, unfolding(crate::specs::Drafts::fits))]
 fn fits(draft: Draft, content: Content) -> bool
     requires { (draft.machine.n ≤ GUESTS) × (draft.machine.m ≤ PAGES) }
     ensures { result ≡ fits draft content }
@@ -116,6 +119,7 @@ fn fits(draft: Draft, content: Content) -> bool
 }
 
 // Whether it is a kind 1.
+#[tactic(auto, unfolding(crate::specs::Drafts::is_counts))]
 fn is_counts(content: Content) -> bool
     ensures { result ≡ is_counts content }
 {
@@ -154,6 +158,7 @@ pub fn may_stand(at: usize, draft: Draft, content: Content) -> bool
 // What it adds.
 
 // The numbers of guests and pages.
+#[tactic(auto, unfolding(crate::specs::Drafts::with_counts))]
 fn with_counts(draft: Draft, n: u8, m: u8) -> Draft
     ensures { result ≡ with_counts draft n m }
 {
@@ -170,6 +175,7 @@ fn with_counts(draft: Draft, n: u8, m: u8) -> Draft
 }
 
 // A guest: where it starts, its mailboxes, and the records of their pages.
+#[tactic(auto, unfolding(model::specs::State::registers_at, crate::specs::Drafts::with_guest))]
 fn with_guest(draft: Draft, g: VmId, tx: PageId, rx: PageId, pc: u32) -> Draft
     requires { (g.0 < GUESTS) × (tx.0 < PAGES) × (rx.0 < PAGES) }
     ensures { result ≡ with_guest draft g tx rx pc }
@@ -194,6 +200,7 @@ fn with_guest(draft: Draft, g: VmId, tx: PageId, rx: PageId, pc: u32) -> Draft
 }
 
 // A page's owner.
+#[tactic(auto, unfolding(crate::specs::Drafts::with_owner))]
 fn with_owner(draft: Draft, page: PageId, g: VmId) -> Draft
     requires { (page.0 < PAGES) × (g.0 < GUESTS) }
     ensures { result ≡ with_owner draft page g }
@@ -211,6 +218,7 @@ fn with_owner(draft: Draft, page: PageId, g: VmId) -> Draft
 }
 
 // The budget, and that nothing may follow.
+#[tactic(auto, unfolding(crate::specs::Drafts::with_budget))]
 fn with_budget(draft: Draft, steps: u32) -> Draft
     ensures { result ≡ with_budget draft steps }
 {
@@ -225,6 +233,7 @@ fn with_budget(draft: Draft, steps: u32) -> Draft
 }
 
 // By its kind; words are for the memory, and add nothing here.
+#[tactic(auto, unfolding(crate::specs::Drafts::taken))]
 pub fn taken(draft: Draft, content: Content) -> Draft
     requires { (draft.machine.n ≤ GUESTS) × (draft.machine.m ≤ PAGES) × (fits draft content ≡ true) }
     ensures { result ≡ taken draft content }

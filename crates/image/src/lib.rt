@@ -90,6 +90,7 @@ pub struct Judged {
 }
 
 // A machine with no guest and no page, and every place blank, in this mode.
+#[tactic(auto, unfolding(model::specs::Blank::blank, model::specs::Blank::blank_registers, model::specs::Row::free_row))]
 fn empty_machine(mode: Mode) -> Machine
     ensures { result ≡ with_mode blank mode }
 {
@@ -127,6 +128,7 @@ fn empty_machine(mode: Mode) -> Machine
 }
 
 // What a refused load gives back: the blank machine and no budget.
+#[tactic(auto, unfolding(model::specs::Blank::blank))]
 fn refused(answer: Answer, offset: usize) -> Loaded
     ensures { result ≡ record { answer = answer; machine = blank; budget = 0; offset = offset } }
 {

@@ -1,0 +1,24 @@
+-- It is no guest, it is described already, or its pages are asked.
+use Rattle.std.proofs.Common.{sym, ◌∙◌}
+use Rattle.isa.specs.Tests.{◌and◌}
+use Rattle.image.proofs.Reading.{described_already, described_first, no_guest}
+use Rattle.image.proofs.drafts.describable.Goals as goal
+
+pub returns-then-guest-machine : goal.returns-then-guest-machine
+returns-then-guest-machine c = no_guest _ _ _ _ c.if-guest-machine.true
+
+pub returns-then-has : goal.returns-then-has
+returns-then-has c = described_already _ _ _ _ c.if-guest-machine.false (sym c.has.ensures ∙ c.if-has.true)
+
+pub returns : goal.returns
+unfolding ◌and◌
+returns c =
+    described_first
+    _
+    _
+    _
+    _
+    c.if-guest-machine.false
+    (sym c.has.ensures ∙ c.if-has.false)
+    c.unused.ensures
+    c.unused-2.ensures

@@ -1,0 +1,12 @@
+-- It stands behind the end, it is out of place, or `fits` is asked.
+use Rattle.image.proofs.Reading.{behind_the_end, in_place, out_of_place}
+use Rattle.image.proofs.drafts.may_stand.Goals as goal
+
+pub returns-then-draft : goal.returns-then-draft
+returns-then-draft c = behind_the_end _ _ _ c.if-draft.true
+
+pub returns-then-at-is_counts : goal.returns-then-at-is_counts
+returns-then-at-is_counts c = out_of_place _ _ _ c.if-draft.false c.is_counts.ensures c.if-at-is_counts.true
+
+pub returns : goal.returns
+returns c = in_place _ _ _ c.if-draft.false c.is_counts.ensures c.if-at-is_counts.false c.fits.ensures
