@@ -12,6 +12,7 @@ use model::{Deal, Handle, Life, Machine, PageId, PageRecord, Transaction};
 use parts::pages;
 
 // The transaction in a handle's place.
+#[tactic(auto, unfolding(model::specs::State::transaction_at))]
 pub fn transaction_at(machine: Machine, h: Handle) -> Transaction
     requires { h.0 < HANDLES }
     ensures { result ≡ transaction_at machine.transactions h }
@@ -54,6 +55,7 @@ fn freed() -> Transaction
 }
 
 // The same deal with the retrieved mark as given.
+#[tactic(auto, unfolding(model::specs::Deeds::marked))]
 fn marked(d: Deal, retrieved: bool) -> Deal
     ensures { result ≡ marked d retrieved }
 {
@@ -63,6 +65,7 @@ fn marked(d: Deal, retrieved: bool) -> Deal
 }
 
 // The same pages under another deal.
+#[tactic(auto, unfolding(model::specs::Deeds::redealt))]
 fn redealt(t: Transaction, d: Deal) -> Transaction
     ensures { result ≡ redealt t d }
 {
@@ -74,6 +77,7 @@ fn redealt(t: Transaction, d: Deal) -> Transaction
 }
 
 // Retrieving: the pages of a donation become the receiver's own, and its handle is done with; others are marked.
+#[tactic(auto, unfolding(model::specs::Deeds::marked))]
 pub fn retrieved(machine: Machine, h: Handle, d: Deal) -> Machine
     requires { Dealt machine h d }
     ensures { result ≡ retrieved machine h d }
@@ -88,6 +92,7 @@ pub fn retrieved(machine: Machine, h: Handle, d: Deal) -> Machine
 }
 
 // Relinquishing: the mark goes.
+#[tactic(auto, unfolding(model::specs::Deeds::marked))]
 pub fn relinquished(machine: Machine, h: Handle, d: Deal) -> Machine
     requires { Dealt machine h d }
     ensures { result ≡ relinquished machine h d }

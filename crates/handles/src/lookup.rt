@@ -35,6 +35,7 @@ fn lookup(transactions: [Transaction; 16], w: u32) -> Found
 }
 
 // What the handle word in the caller's R1 finds.
+#[tactic(auto, unfolding(model::specs::HandleCall::own_found))]
 pub fn own_found(machine: Machine) -> Found
     requires { machine.current.0 < GUESTS }
     ensures { result ≡ own_found machine }
@@ -44,6 +45,7 @@ pub fn own_found(machine: Machine) -> Found
 }
 
 // Every page of the transaction has its row.
+#[tactic(auto, unfolding(model::specs::State::page_at))]
 fn in_place(machine: Machine, h: Handle, d: Deal) -> bool
     requires { Dealt machine h d }
     ensures { result ≡ in_place machine h d }
