@@ -1,6 +1,6 @@
 -- The laws of a sending: the bases in a descriptor and the pages at them; a descriptor as a whole; each way out of the call.
 use Prim.Native.Nat.{ℕ, suc, ◌+◌, ◌-◌, ◌*◌, ◌%◌, ◌≤◌, ◌<◌}
-use mathlib.Core.Path.{◌≡◌, refl, ap, ◌∙◌}
+use mathlib.Core.Path.{◌≡◌, refl, sym, ap, ◌∙◌}
 use mathlib.Core.Bool.{Bool, true, false, not}
 use mathlib.Core.List.{List}
 use native.Mathlib.Omega.{arith}
@@ -168,6 +168,29 @@ reachable kind m length tx r s fits good read =
           let b' : i < length - 2 = rw read.count at b in
           let below : (page_of (base_in tx i)).0 < m.m = ltb-true _ _ (and_right _ _ (every_at _ _ bases i b')) in
           rw (read.pages, listed_page (length - 2) tx i b' few) (omega arith);
+    }
+
+-- what the way past the tests of the descriptor knows
+pub record Told (kind : Kind) (m : Machine) (memory : List ℕ) (r : Proposal) : Type 0 where
+  pub fits : length_fits (argument m 1) ≡ true
+  pub formed : well_formed kind m (argument m 1) (tx_words (state m memory)) ≡ true
+  pub read : Read (argument m 1) (tx_words (state m memory)) r
+  pub reached : Reachable r
+
+pub told : (kind : Kind) (m : Machine) (memory : List ℕ) (box : Mailbox) (words : ℕ) (r : Proposal) → sound m ≡ true
+    → box ≡ mailbox_at m.mailboxes m.current → words ≡ argument m 1 → length_fits words ≡ true
+    → (r.good ≡ well_formed kind m words (take (length memory - 1024 * box.tx.0) (drop (1024 * box.tx.0) memory)))
+    × (r.good ≡ true → Read words (take (length memory - 1024 * box.tx.0) (drop (1024 * box.tx.0) memory)) r)
+    → r.good ≡ true → Told kind m memory r
+told kind m memory box words r s own first fits asked good =
+    let measured : length_fits (argument m 1) ≡ true = rw first at fits in
+    let formed = sym (good_here m memory box own words r first kind asked.0) ∙ good in
+    let read = read_here m memory box own words r first (asked.1 good) in
+    record {
+      fits = measured;
+      formed = formed;
+      read = read;
+      reached = reachable kind m (argument m 1) (tx_words (state m memory)) r s measured formed read;
     }
 
 -- The pages are the caller's own.

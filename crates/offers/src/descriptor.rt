@@ -38,6 +38,7 @@ fn header_fits(kind: Kind, length: u32, tx: &[u32]) -> bool
 }
 
 // The pages at the first count bases, as far as they are bases.
+#[tactic(auto, unfolding(crate::specs::Descriptor::base_in, crate::specs::Descriptor::pages_in))]
 fn pages_listed(m: u8, count: u8, tx: &[u32]) -> Listed
     requires { (count ≤ PLACES) × Words tx.now }
     ensures { (result.good ≡ every count (λ i. is_base m (base_in tx.now i))) × (result.good ≡ true → result.pages ≡ pages_in count tx.now) }

@@ -13,6 +13,7 @@ use model::{Deal, Handle, Kind, Life, Machine, PageId, Transaction, VmId};
 use parts::{codes, registers, reply};
 
 // Whether a handle's place is free.
+#[tactic(auto, unfolding(model::specs::Sending::is_free))]
 fn is_free(life: Life) -> bool
     ensures { result ≡ is_free life }
 {
