@@ -25,6 +25,7 @@ pub struct Advanced {
 }
 
 // Whether a call stopped the guest.
+#[tactic(auto, unfolding(crate::specs::Advance::by_call))]
 fn is_called(stop: Stop) -> bool
     ensures { result ≡ by_call stop }
 {
@@ -60,6 +61,7 @@ fn with_mode(machine: Machine, mode: Mode) -> Machine
 }
 
 // The machine once its guest has stopped without a call: a fault and a halt change the mode.
+#[tactic(auto, unfolding(crate::specs::Advance::ended_by))]
 fn ended(machine: Machine, stop: Stop) -> Machine
     ensures { result ≡ ended_by stop machine }
 {
@@ -94,6 +96,7 @@ fn over(machine: Machine, left: u32) -> Advanced
 }
 
 // Guest 0's registers once a secondary has yielded.
+#[tactic(auto, unfolding(crate::specs::Advance::told_of))]
 fn told(first: Registers, caller: VmId) -> Registers
     ensures { result ≡ told_of first caller }
 {
@@ -105,6 +108,7 @@ fn told(first: Registers, caller: VmId) -> Registers
 
 // Steps while the budget lasts and the mode is normal; up to and including the next call if only that is wanted. A round is a
 // burst of the current guest, with its rights, and then the end, or its call: Yield and Run in place, the others by value.
+#[tactic(auto, unfolding(model::specs::State::mailbox_at, model::specs::State::own_registers, model::specs::State::plus, model::specs::State::registers_at, model::specs::Step::with_own))]
 pub fn advance(machine: Machine, mem: &mut [u32], budget: u32, to_call: bool) -> Advanced
     requires { (sound machine ≡ true) × (is_normal machine.mode ≡ true) × (length mem.old ≡ PAGE * machine.m) }
     ensures { rest_of result mem.new ≡ advance_of to_call budget (state machine mem.old) }

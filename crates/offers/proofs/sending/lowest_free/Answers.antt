@@ -1,6 +1,6 @@
 -- `offers::sending::lowest_free` meets its contract. The loop's invariant: no handle below h is free. The measure is what is
 -- left of the handles.
-use Rattle.std.proofs.Common.{ap, arith, sym, ◌∙◌}
+use Rattle.std.proofs.Common.{ap, arith, below_more, sym, ◌∙◌}
 use Rattle.model.proofs.Tests.{first_is, none_first}
 use Rattle.model.specs.Constants.{HANDLES}
 use Rattle.model.specs.Sending.{lowest_free}
@@ -17,3 +17,8 @@ returns-then-is_free c =
 pub returns : goal.returns
 unfolding lowest_free transaction_at
 returns c = ap handle (sym (none_first HANDLES _ (λ k h. c.loop-h.invariant.1 k (omega arith))))
+
+pub loop-h-preserved : goal.loop-h-preserved
+unfolding transaction_at
+loop-h-preserved c =
+    (omega arith, below_more _ _ c.loop-h.invariant.1 (sym c.is_free.ensures ∙ c.if-is_free.false))
