@@ -1,9 +1,8 @@
 -- The maps that a run keeps: of each guest that is marked, the maps of its rights, as the records and the mailboxes give them.
 -- Assumes nothing.
-use Rattle.std.proofs.Common.{◌≡◌, ℕ, zero, suc, ◌<◌, Bool, true, false, not, List, length, get_or, set, replicate, sym, refl, ◌∙◌, arith, length-set, get_or-set_other, get_or-set_same}
+use Rattle.std.proofs.Common.{◌≡◌, ℕ, zero, suc, ◌<◌, Bool, true, false, List, length, get_or, set, replicate, sym, refl, ◌∙◌, arith, length-set, get_or-set_other, get_or-set_same}
 use mathlib.Core.Bool.{false≢true}
 use native.Mathlib.Decide.{ℕ_discrete}
-use borrow.Author.Tests.{not-false}
 use Rattle.model.specs.declared.Mailbox.{Mailbox}
 use Rattle.model.specs.declared.PageRecord.{PageRecord}
 use Rattle.model.specs.declared.Machine.{Machine}
@@ -49,9 +48,9 @@ ready_none m marks loads stores none =
 module _ (m : Machine) {marks : List Bool} {loads stores : List ℕ} (ready : ReadyFor m marks loads stores)
     {marks' : List Bool} {loads' stores' : List ℕ} where
   -- the maps of the current guest are there
-  pub now_kept : not (get_or marks m.current.0 false) ≡ false → marks' ≡ marks → loads' ≡ loads → stores' ≡ stores
+  pub now_kept : get_or marks m.current.0 false ≡ true → marks' ≡ marks → loads' ≡ loads → stores' ≡ stores
       → ReadyNow m marks' loads' stores'
-  now_kept is e f g = rw (e, f, g) (ready, not-false _ is)
+  now_kept is e f g = rw (e, f, g) (ready, is)
 
   -- they are made
   pub now_made : {load store : ℕ} → m.current.0 < GUESTS → MapsOf m.records m.m m.mailboxes m.current.0 load store
