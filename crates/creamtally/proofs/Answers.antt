@@ -1,10 +1,10 @@
 -- Which way the definitions of the entries go, by what the code tests.
 use Prim.Native.Nat.{ℕ, ◌*◌}
 use mathlib.Core.Path.{◌≡◌, refl, sym, ◌∙◌}
-use mathlib.Core.Bool.{Bool, true, false, cond, not}
+use mathlib.Core.Bool.{Bool, true, false, cond}
 use mathlib.Core.List.{List}
 use lib.ListN.{length}
-use borrow.Author.Tests.{not-true, not-false, eq-eqb, ne_eqb}
+use borrow.Author.Tests.{eq-eqb, ne_eqb}
 use Rattle.model.specs.declared.Mode.{Mode}
 use Rattle.model.specs.declared.Machine.{Machine}
 use Rattle.model.specs.declared.Answer.{Answer}
@@ -26,13 +26,13 @@ unfolding check_of judged
 memory_wrong m memory wrong = rw (ne_eqb (length memory) (PAGE * m.m) wrong)
 
 module _ (m : Machine) (memory : List ℕ) {isSound : Bool} (fits : length memory ≡ PAGE * m.m) (asked : isSound ≡ sound m) where
-  pub check_unsound : not isSound ≡ true → Unsound ≡ check_of m memory
+  pub check_unsound : isSound ≡ false → Unsound ≡ check_of m memory
   unfolding check_of judged
-  check_unsound e = rw (eq-eqb (length memory) (PAGE * m.m) fits, ← asked, not-true isSound e)
+  check_unsound e = rw (eq-eqb (length memory) (PAGE * m.m) fits, ← asked, e)
 
-  pub check_done : not isSound ≡ false → Done ≡ check_of m memory
+  pub check_done : isSound ≡ true → Done ≡ check_of m memory
   unfolding check_of judged
-  check_done e = rw (eq-eqb (length memory) (PAGE * m.m) fits, ← asked, not-false isSound e)
+  check_done e = rw (eq-eqb (length memory) (PAGE * m.m) fits, ← asked, e)
 
 -- An answer is 0, or it is not: the code has its number.
 

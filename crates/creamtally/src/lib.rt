@@ -30,6 +30,7 @@ pub fn check(machine: Machine, mem: &[u32]) -> Answer
 }
 
 // The number of an answer.
+#[tactic(auto, unfolding(model::specs::Answer::answer_number))]
 pub fn answer_number(answer: Answer) -> u32
     ensures { result ≡ answer_number answer }
 {
@@ -57,6 +58,7 @@ pub fn step(machine: Machine, mem: &mut [u32]) -> Stepped
 }
 
 // Steps while the budget lasts and the mode is normal, and their number.
+#[tactic(auto, unfolding(crate::specs::Left::walk_of))]
 pub fn run(machine: Machine, mem: &mut [u32], budget: u32) -> Ran
     ensures { left_by_run result mem.new ≡ run_of machine mem.old budget }
 {
@@ -71,6 +73,7 @@ pub fn run(machine: Machine, mem: &mut [u32], budget: u32) -> Ran
 }
 
 // The same, but no step after a call: also the call that it came to, if it came to one.
+#[tactic(auto, unfolding(crate::specs::Left::walk_of))]
 pub fn run_to_call(machine: Machine, mem: &mut [u32], budget: u32) -> RanToCall
     ensures { left_by_leg result mem.new ≡ run_to_call_of machine mem.old budget }
 {

@@ -7,6 +7,7 @@ ghost use Rattle.model.specs.Entries.{then_mode};
 use model::{Answer, Mode};
 
 // Whether the machine goes on.
+#[tactic(auto, unfolding(model::specs::State::is_normal))]
 fn is_normal(mode: Mode) -> bool
     ensures { result ≡ is_normal mode }
 {

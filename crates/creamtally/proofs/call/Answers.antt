@@ -1,0 +1,31 @@
+-- `call`: what the check and the mode answer leads to each way out.
+use Rattle.std.proofs.Common.{List, ap, ℕ, ◌∙◌, ◌≡◌}
+use Rattle.model.specs.Entries.{check_of, then_mode}
+use Rattle.model.specs.declared.Answer.{Answer}
+use Rattle.model.specs.declared.Machine.{Machine}
+use Rattle.creamtally.proofs.Answers.{call_done, call_refused, checked, is_done_zero, not_zero}
+use Rattle.creamtally.proofs.call.Goals as goal
+
+-- the answer is that of the check, and then of the mode
+answered : (m : Machine) (memory : List ℕ) {checked told : Answer} → checked ≡ check_of m memory → told ≡ then_mode checked m.mode
+    → told ≡ then_mode (check_of m memory) m.mode
+answered m memory e f = f ∙ ap (λ (a : Answer). then_mode a m.mode) e
+
+pub returns-then-answer_number-ne0 : goal.returns-then-answer_number-ne0
+returns-then-answer_number-ne0 c =
+    call_refused _ _ _
+    (answered _ _ c.check.ensures c.then_mode-answer.ensures)
+    (not_zero _ c.answer_number.ensures c.if-answer_number-ne0.true)
+
+pub call-requires : goal.call-requires
+call-requires c =
+    checked _ _ _
+    (answered _ _ c.check.ensures c.then_mode-answer.ensures)
+    (is_done_zero _ c.answer_number.ensures c.if-answer_number-ne0.false)
+
+pub returns : goal.returns
+returns c =
+    call_done _ _ _
+    (answered _ _ c.check.ensures c.then_mode-answer.ensures)
+    (is_done_zero _ c.answer_number.ensures c.if-answer_number-ne0.false)
+    _ c.call.ensures
