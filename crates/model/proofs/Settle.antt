@@ -8,7 +8,6 @@ use mathlib.Core.List.{List}
 use native.Mathlib.Decide.{ℕ_discrete}
 use native.Mathlib.Omega.{arith}
 use lib.ListN.{length, set, length-set}
-use Rattle.isa.specs.Tests.{◌and◌, ◌or◌}
 use Rattle.model.specs.declared.VmId.{VmId}
 use Rattle.model.specs.declared.PageId.{PageId}
 use Rattle.model.specs.declared.Handle.{Handle}
@@ -27,7 +26,7 @@ use Rattle.model.specs.Row.{donates}
 use Rattle.model.specs.Due.{is_mailbox, holds, holder, due_in, due}
 use Rattle.model.specs.Sound.{OwnersBelow, NoPageTwice, RecordsDue, PagesBlank, Sound}
 use Rattle.model.specs.Shaped.{Shaped}
-use Rattle.model.specs.Deeds.{recorded, settled, retrieved}
+use Rattle.model.specs.Deeds.{recorded, settled}
 use Rattle.isa.proofs.Tests.{not_both, cannot_pass}
 use Rattle.model.proofs.Tests.{first_passes, length_set_each, set_each_other, set_each_same}
 use Rattle.model.proofs.State.{transaction_same, transaction_other}

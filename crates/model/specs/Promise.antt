@@ -1,6 +1,5 @@
 -- The reclaim promise. Proved in `proofs/Promise.antt`; `proofs/PromiseApplies.antt` shows that its premises can be met.
 use Rattle.std.specs.Prelude.{ℕ, ◌<◌, ◌≡◌, true, List, ◌⊎◌}
-use Rattle.isa.specs.Tests.{◌or◌}
 use Rattle.model.specs.declared.VmId.{VmId}
 use Rattle.model.specs.declared.PageId.{PageId}
 use Rattle.model.specs.declared.Handle.{Handle}
