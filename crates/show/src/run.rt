@@ -31,6 +31,7 @@ pub struct Piece {
 }
 
 // Puts the line of a call into the buffer, with the caller's registers as the call left them.
+#[tactic(auto, unfolding(model::specs::ToCall::line_of, model::specs::State::register, model::specs::State::registers_at))]
 fn put_call(out: &mut [u8], at: usize, step: u32, caller: VmId, r0: u32, after: Machine) -> usize
     requires { (at + LINE ≤ length out.old) × (caller.0 < GUESTS) }
     ensures { Laid out.old at (line_text (line_of step caller r0 after)) out.new result }
@@ -43,6 +44,7 @@ fn put_call(out: &mut [u8], at: usize, step: u32, caller: VmId, r0: u32, after: 
 
 // Runs from call to call with what is left of the budget, and puts a line for each call into the buffer, and the last line: the
 // whole text of the run, or as much as there is room for.
+#[tactic(auto, unfolding(crate::specs::Told::piece_then))]
 fn put_piece(machine: Machine, mem: &mut [u32], budget: u32, left: u32, out: &mut [u8]) -> Piece
     requires { (left ≤ budget) × (64 ≤ length out.old) }
     ensures { PutPiece budget left machine mem.old result mem.new out.new }
