@@ -3,8 +3,10 @@
 
 #![tactic(auto)]
 
-fn main() {
+use std::io;
+
+fn main(rt: HostRuntime) -> io::Result<()> {
     let mut buffer = [0u8; 65537];
-    let n = io::read_full(0, &mut buffer);
-    show::bench(&buffer[..n]);
+    let n = show::read_full(rt.stdin(), &mut buffer)?;
+    show::bench(rt.stdout(), &buffer[..n])
 }

@@ -6,18 +6,21 @@
 
 ghost use Rattle.std.specs.Prelude.{◌≡◌, length};
 
+use std::io;
+use std::io::{Print, Stdin, Stdout};
+
 // A number of four bytes, the lowest first.
 fn number_of(a: u8, b: u8, c: u8, d: u8) -> usize {
     (a as usize) + 256 * (b as usize) + 65536 * (c as usize) + 16777216 * (d as usize)
 }
 
 // The next length of the input; one that is too large where the input ends.
-fn next_length() -> usize {
+fn next_length(from: Stdin) -> io::Result<usize> {
     let mut head = [0u8; 4];
-    if io::read_full(0, &mut head) != 4 {
-        return 65538;
+    if show::read_full(from, &mut head)? != 4 {
+        return Ok(65538);
     }
-    number_of(head[0], head[1], head[2], head[3])
+    Ok(number_of(head[0], head[1], head[2], head[3]))
 }
 
 // Room for an image, and for one byte more than it may have.
@@ -27,32 +30,26 @@ fn room() -> [u8; 65537]
     [0; 65537]
 }
 
-// Prints the line that names an image.
-fn announce(number: u64) {
-    io::write_all(1, b"image ");
-    io::print_decimal(1, number);
-    io::write_all(1, b"\n");
-}
-
 // Reads the next image and shows it: whether there was one.
-fn show_next(number: u64) -> bool {
-    let size = next_length();
+fn show_next(from: Stdin, to: Stdout, number: u64) -> io::Result<bool> {
+    let size = next_length(from)?;
     if 65537 < size {
-        return false;
+        return Ok(false);
     }
     let mut buffer = room();
-    if io::read_full(0, &mut buffer[..size]) != size {
-        return false;
+    if show::read_full(from, &mut buffer[..size])? != size {
+        return Ok(false);
     }
-    announce(number);
-    show::bench(&buffer[..size]);
-    true
+    println!(to; "image {number}")?;
+    show::bench(to, &buffer[..size])?;
+    Ok(true)
 }
 
 // The count is what ends the loop in a proof: no input is so long.
-fn main() {
+fn main(rt: HostRuntime) -> io::Result<()> {
     let mut number: u64 = 1;
-    while number < u64::MAX && show_next(number) {
+    while number < u64::MAX && show_next(rt.stdin(), rt.stdout(), number)? {
         number += 1;
     }
+    Ok(())
 }

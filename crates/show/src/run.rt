@@ -1,6 +1,6 @@
 // The run of a bench, from call to call, and its text in pieces as large as the buffer.
 
-ghost use Rattle.std.specs.Prelude.{◌+◌, ◌<◌, ◌≤◌, ◌≡◌, length};
+ghost use Rattle.std.specs.Prelude.{◌+◌, ◌<◌, ◌≤◌, ◌≡◌, length, IfOk};
 ghost use Rattle.model.specs.Constants.{GUESTS};
 ghost use Rattle.model.specs.Entries.{run_of};
 ghost use Rattle.model.specs.ToCall.{line_of};
@@ -10,6 +10,8 @@ ghost use Rattle.show.specs.Ended.{ending_of};
 ghost use Rattle.show.specs.Told.{PutPiece};
 
 use model::{Machine, NextCall, VmId};
+use std::io;
+use std::io::{Print, Stdout};
 
 // What a run came to: the number of its steps, and the machine.
 #[derive(Clone, Copy)]
@@ -29,6 +31,7 @@ pub struct Piece {
 }
 
 // Puts the line of a call into the buffer, with the caller's registers as the call left them.
+#[tactic(auto, unfolding(model::specs::ToCall::line_of, model::specs::State::register, model::specs::State::registers_at))]
 fn put_call(out: &mut [u8], at: usize, step: u32, caller: VmId, r0: u32, after: Machine) -> usize
     requires { (at + LINE ≤ length out.old) × (caller.0 < GUESTS) }
     ensures { Laid out.old at (line_text (line_of step caller r0 after)) out.new result }
@@ -41,6 +44,7 @@ fn put_call(out: &mut [u8], at: usize, step: u32, caller: VmId, r0: u32, after: 
 
 // Runs from call to call with what is left of the budget, and puts a line for each call into the buffer, and the last line: the
 // whole text of the run, or as much as there is room for.
+#[tactic(auto, unfolding(crate::specs::Told::piece_then))]
 fn put_piece(machine: Machine, mem: &mut [u32], budget: u32, left: u32, out: &mut [u8]) -> Piece
     requires { (left ≤ budget) × (64 ≤ length out.old) }
     ensures { PutPiece budget left machine mem.old result mem.new out.new }
@@ -81,9 +85,9 @@ fn buffer() -> [u8; 8192]
     [0; 8192]
 }
 
-// Runs to the end, and writes the run's text, piece by piece.
-pub fn play(machine: Machine, mem: &mut [u32], budget: u32) -> Ending
-    ensures { result ≡ ending_of (run_of machine mem.old budget) }
+// Runs to the end, and writes the run's text, piece by piece. It fails only where a write does, and then runs no further.
+pub fn play(to: Stdout, machine: Machine, mem: &mut [u32], budget: u32) -> io::Result<Ending>
+    ensures { IfOk result (λ r. r ≡ ending_of (run_of machine mem.old budget)) }
 {
     let mut out = buffer();
     let mut m = machine;
@@ -91,15 +95,15 @@ pub fn play(machine: Machine, mem: &mut [u32], budget: u32) -> Ending
     loop {
         let piece = put_piece(m, mem, budget, left, &mut out);
         let end = piece.end;
-        io::write_all(1, &out[..end]);
+        to.write_all(&out[..end])?;
         let after = piece.machine;
         m = after;
         left = piece.left;
         if !piece.more {
-            return Ending {
+            return Ok(Ending {
                 steps: budget - left,
                 machine: m,
-            };
+            });
         }
     }
 }

@@ -1,0 +1,9 @@
+-- The loop's invariant: what was read lies in the buffer, which is as long as it was. The measure is the room that is left.
+use Rattle.std.proofs.Common.{◌≤◌, ◌-◌, length}
+use Rattle.show.proofs.input.read_full.Given as goal
+
+abbrev pub invariant-loop-done : goal.invariant-loop-done
+invariant-loop-done l = l.done ≤ length l.buffer
+
+abbrev pub decreases-loop-done : goal.decreases-loop-done
+decreases-loop-done l = length l.buffer - l.done

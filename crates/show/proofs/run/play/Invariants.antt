@@ -1,0 +1,15 @@
+-- The loop's invariant: the run of what is left comes to the same end; the memory and the buffer are as long as they were. The
+-- measure is what is left of the budget.
+use Rattle.std.proofs.Common.{◌≡◌, ◌≤◌, length}
+use Rattle.show.specs.Told.{rest_of}
+use Rattle.show.proofs.run.play.Given as goal
+
+abbrev pub invariant-loop-after : goal.invariant-loop-after
+invariant-loop-after l =
+    ((rest_of l.budget l.left l.m l.mem).end ≡ (rest_of l.budget l.budget l.initial.m l.initial.mem).end)
+    × (l.left ≤ l.budget)
+    × (length l.mem ≡ length l.initial.mem)
+    × (length l.out ≡ 8192)
+
+abbrev pub decreases-loop-after : goal.decreases-loop-after
+decreases-loop-after l = l.left

@@ -1,0 +1,14 @@
+-- The loop's invariant: what the buffer has so far, and what is to come behind it, is the whole; the memory is as long as it was.
+-- The measure is what is left of the budget.
+use Rattle.std.proofs.Common.{◌≡◌, length}
+use Rattle.show.specs.Told.{rest_of}
+use Rattle.show.proofs.Putting.{Putting}
+use Rattle.show.proofs.run.put_piece.Given as goal
+
+abbrev pub invariant-loop-out : goal.invariant-loop-out
+invariant-loop-out l =
+    Putting (rest_of l.budget l.left l.initial.m l.initial.mem) l.budget l.left (length l.initial.out) l.rest l.m l.mem l.out l.at
+    × (length l.mem ≡ length l.initial.mem)
+
+abbrev pub decreases-loop-out : goal.decreases-loop-out
+decreases-loop-out l = l.rest
