@@ -10,10 +10,10 @@ loop-i-init c = (omega arith, every_none _)
 
 pub returns-then-tx-i : goal.returns-then-tx-i
 returns-then-tx-i c =
-    rw (ascends c.args.count c.args.tx.now) (sym (every_stops _ (omega arith) (base_stays _ c.loop-i.i c.if-tx-i.true)))
+    rw (ascends c.args.count c.args.tx.now) (sym (every_stops _ (omega arith) (base_stays c.args.tx.now c.loop-i.i (omega arith))))
 
 pub loop-i-preserved : goal.loop-i-preserved
-loop-i-preserved c = (omega arith, every_more _ _ c.loop-i.invariant.1 (base_climbs c.args.tx.now c.loop-i.i c.if-tx-i.false))
+loop-i-preserved c = (omega arith, every_more _ _ c.loop-i.invariant.1 (base_climbs c.args.tx.now c.loop-i.i (omega arith)))
 
 pub returns : goal.returns
 returns c =
