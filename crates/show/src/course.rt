@@ -14,6 +14,7 @@ pub enum Course {
 }
 
 // The refusals in their order: by size, by the first bad record, by the number of pages.
+#[tactic(auto, using(crate::proofs::Courses::too_long, crate::proofs::Courses::is_faulty, crate::proofs::Courses::too_wide, crate::proofs::Courses::is_fit))]
 pub fn chosen(bytes: &[u8]) -> Course
     ensures { result ≡ course_of bytes.now }
 {

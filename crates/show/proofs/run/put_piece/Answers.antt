@@ -1,7 +1,6 @@
 use Rattle.std.proofs.Common.{arith, refl, ◌∙◌}
 use mathlib.Core.Bool.{false≢true}
 use Rattle.model.proofs.Typed.{typed_shaped}
-use Rattle.lines.specs.Laid.{LINE}
 use Rattle.show.specs.Told.{piece_then}
 use Rattle.show.proofs.Turns.{turn}
 use Rattle.show.proofs.Putting.{begins, goes_on, ends}
