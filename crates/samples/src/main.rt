@@ -30,6 +30,11 @@ fn room() -> [u8; 65537]
     [0; 65537]
 }
 
+// Prints the line that names an image.
+fn announce(to: Stdout, number: u64) -> io::Result<()> {
+    println!(to; "image {number}")
+}
+
 // Reads the next image and shows it: whether there was one.
 fn show_next(from: Stdin, to: Stdout, number: u64) -> io::Result<bool> {
     let size = next_length(from)?;
@@ -40,7 +45,7 @@ fn show_next(from: Stdin, to: Stdout, number: u64) -> io::Result<bool> {
     if show::read_full(from, &mut buffer[..size])? != size {
         return Ok(false);
     }
-    println!(to; "image {number}")?;
+    announce(to, number)?;
     show::bench(to, &buffer[..size])?;
     Ok(true)
 }
