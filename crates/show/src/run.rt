@@ -1,12 +1,14 @@
 // The run of a bench, from call to call, and its text in pieces as large as the buffer.
 
-ghost use Rattle.std.specs.Prelude.{◌+◌, ◌<◌, ◌≤◌, ◌≡◌, length, IfOk};
+ghost use Rattle.std.specs.Prelude.{ℕ, ◌+◌, ◌-◌, ◌<◌, ◌≤◌, ◌≡◌, length, IfOk, OnErr};
 ghost use Rattle.model.specs.Constants.{GUESTS};
+ghost use Rattle.model.specs.State.{state};
 ghost use Rattle.model.specs.Entries.{run_of};
 ghost use Rattle.model.specs.ToCall.{line_of};
 ghost use Rattle.lines.specs.Laid.{Laid, LINE};
 ghost use Rattle.lines.specs.Text.{line_text};
 ghost use Rattle.show.specs.Ended.{ending_of};
+ghost use Rattle.show.specs.Reached.{reached};
 ghost use Rattle.show.specs.Told.{PutPiece};
 
 use model::{Machine, NextCall, VmId};
@@ -47,7 +49,9 @@ fn put_call(out: &mut [u8], at: usize, step: u32, caller: VmId, r0: u32, after: 
 #[tactic(auto, unfolding(crate::specs::Told::piece_then))]
 fn put_piece(machine: Machine, mem: &mut [u32], budget: u32, left: u32, out: &mut [u8]) -> Piece
     requires { (left ≤ budget) × (64 ≤ length out.old) }
-    ensures { PutPiece budget left machine mem.old result mem.new out.new }
+    ensures piece { PutPiece budget left machine mem.old result mem.new out.new }
+    ensures within { result.left ≤ left }
+    ensures state { state result.machine mem.new ≡ reached machine mem.old (left - result.left) }
 {
     let mut m = machine;
     let mut rest = left;
@@ -85,9 +89,11 @@ fn buffer() -> [u8; 8192]
     [0; 8192]
 }
 
-// Runs to the end, and writes the run's text, piece by piece. It fails only where a write does, and then runs no further.
+// Runs to the end, and writes the run's text, piece by piece. It fails only where a write does, and then runs no further: the
+// lent memory is what some number of the run's steps leave.
 pub fn play(to: Stdout, machine: Machine, mem: &mut [u32], budget: u32) -> io::Result<Ending>
-    ensures { IfOk result (λ r. r ≡ ending_of (run_of machine mem.old budget)) }
+    ensures ok { IfOk result (λ r. r ≡ ending_of (run_of machine mem.old budget)) }
+    ensures err { OnErr result ((k : ℕ) × (k ≤ budget) × (mem.new ≡ (run_of machine mem.old k).memory)) }
 {
     let mut out = buffer();
     let mut m = machine;

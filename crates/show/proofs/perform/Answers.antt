@@ -39,4 +39,4 @@ returns c =
     ap (λ (memory : List ℕ). run_of c.load-loaded.result.machine memory c.load-loaded.result.budget)
     (take_at c.load-loaded.new.mem _ _ (c.load-loaded.auto.mem ∙ lent))
     ∙ loaded_run _ _ _ c.requires lent c.load-loaded.ensures in
-    rw (← same) c.play.ensures
+    rw (← same) c.play.ensures.ok

@@ -1,6 +1,8 @@
--- The loop's invariant: the run of what is left comes to the same end; the memory and the buffer are as long as they were. The
--- measure is what is left of the budget.
-use Rattle.std.proofs.Common.{◌≡◌, ◌≤◌, length}
+-- The loop's invariant: the run of what is left comes to the same end; the memory and the buffer are as long as they were; and the
+-- machine and the memory are what a run of the used budget leaves. The measure is what is left of the budget.
+use Rattle.std.proofs.Common.{◌≡◌, ◌-◌, ◌≤◌, length}
+use Rattle.model.specs.State.{state}
+use Rattle.show.specs.Reached.{reached}
 use Rattle.show.specs.Told.{rest_of}
 use Rattle.show.proofs.run.play.Given as goal
 
@@ -10,6 +12,7 @@ invariant-loop-after l =
     × (l.left ≤ l.budget)
     × (length l.mem ≡ length l.initial.mem)
     × (length l.out ≡ 8192)
+    × (state l.m l.mem ≡ reached l.initial.m l.initial.mem (l.budget - l.left))
 
 abbrev pub decreases-loop-after : goal.decreases-loop-after
 decreases-loop-after l = l.left
