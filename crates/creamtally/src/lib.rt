@@ -58,7 +58,6 @@ pub fn step(machine: Machine, mem: &mut [u32]) -> Stepped
 }
 
 // Steps while the budget lasts and the mode is normal, and their number.
-#[tactic(auto, unfolding(crate::specs::Left::walk_of))]
 pub fn run(machine: Machine, mem: &mut [u32], budget: u32) -> Ran
     ensures { left_by_run result mem.new ≡ run_of machine mem.old budget }
 {
@@ -73,7 +72,6 @@ pub fn run(machine: Machine, mem: &mut [u32], budget: u32) -> Ran
 }
 
 // The same, but no step after a call: also the call that it came to, if it came to one.
-#[tactic(auto, unfolding(crate::specs::Left::walk_of))]
 pub fn run_to_call(machine: Machine, mem: &mut [u32], budget: u32) -> RanToCall
     ensures { left_by_leg result mem.new ≡ run_to_call_of machine mem.old budget }
 {
@@ -112,7 +110,8 @@ pub fn call(machine: Machine, mem: &mut [u32]) -> Stepped
 {
     let mode = machine.mode;
     let answer = modes::then_mode(check(machine, &mem[..]), mode);
-    if answer_number(answer) != 0 {
+    let refused = answer_number(answer) != 0;
+    if refused {
         return Stepped {
             answer: answer,
             machine: machine,
@@ -128,7 +127,8 @@ pub fn call(machine: Machine, mem: &mut [u32]) -> Stepped
 pub fn message<'a>(machine: Machine, mem: &'a [u32], g: VmId) -> &'a [u32]
     ensures { (result.now ≡ message_of machine mem.now g) × BeginsAt result mem.entry (message_place machine mem.now g) }
 {
-    if answer_number(check(machine, mem)) != 0 {
+    let refused = answer_number(check(machine, mem)) != 0;
+    if refused {
         return &mem[..0];
     }
     if g.0 >= machine.n {

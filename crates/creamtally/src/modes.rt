@@ -22,7 +22,8 @@ fn is_normal(mode: Mode) -> bool
 pub fn then_mode(answer: Answer, mode: Mode) -> Answer
     ensures { result ≡ then_mode answer mode }
 {
-    if crate::answer_number(answer) != 0 {
+    let refused = crate::answer_number(answer) != 0;
+    if refused {
         return answer;
     }
     if is_normal(mode) {

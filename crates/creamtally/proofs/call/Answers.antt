@@ -11,21 +11,21 @@ answered : (m : Machine) (memory : List ℕ) {checked told : Answer} → checked
     → told ≡ then_mode (check_of m memory) m.mode
 answered m memory e f = f ∙ ap (λ (a : Answer). then_mode a m.mode) e
 
-pub returns-then-answer_number-ne0 : goal.returns-then-answer_number-ne0
-returns-then-answer_number-ne0 c =
+pub returns-then-refused : goal.returns-then-refused
+returns-then-refused c =
     call_refused _ _ _
     (answered _ _ c.check.ensures c.then_mode-answer.ensures)
-    (not_zero _ c.answer_number.ensures c.if-answer_number-ne0.true)
+    (not_zero _ c.answer_number-refused.ensures c.if-refused.true)
 
 pub call-requires : goal.call-requires
 call-requires c =
     checked _ _ _
     (answered _ _ c.check.ensures c.then_mode-answer.ensures)
-    (is_done_zero _ c.answer_number.ensures c.if-answer_number-ne0.false)
+    (is_done_zero _ c.answer_number-refused.ensures c.if-refused.false)
 
 pub returns : goal.returns
 returns c =
     call_done _ _ _
     (answered _ _ c.check.ensures c.then_mode-answer.ensures)
-    (is_done_zero _ c.answer_number.ensures c.if-answer_number-ne0.false)
+    (is_done_zero _ c.answer_number-refused.ensures c.if-refused.false)
     _ c.call.ensures
