@@ -45,6 +45,11 @@ ready_none m marks loads stores none =
       of_marked = λ g marked. absurd (false≢true (sym (none g) ∙ marked));
     }
 
+-- after a call that may have changed records, nobody is marked
+pub stale : (m k : Machine) {marks : List Bool} {loads stores : List ℕ} → ReadyFor m marks loads stores
+    → ReadyFor k (replicate 8 false) loads stores
+stale m k ready = ready_none k refl ready.eight_loads ready.eight_stores (none_marked 8)
+
 module _ (m : Machine) {marks : List Bool} {loads stores : List ℕ} (ready : ReadyFor m marks loads stores)
     {marks' : List Bool} {loads' stores' : List ℕ} where
   -- the maps of the current guest are there

@@ -25,7 +25,11 @@ use Rattle.exec.proofs.Bursts.{burst_rights}
 use Rattle.runs.proofs.Resumes.{own_again, resumes}
 use Rattle.runs.proofs.Effects.{switch_other, switch_stay, switch_to, switch_wake}
 use Rattle.runs.proofs.Fits.{current_file, own_same, own_fits, fit_eight, burst_fits, burst_takes, call_mode}
-use Rattle.runs.proofs.Ready.{MapsOf, ReadyFor}
+use Rattle.exec.specs.Maps.{pages_for}
+use Rattle.model.specs.State.{mailbox_at}
+use Rattle.model.specs.Rights.{Rights}
+use Rattle.runs.proofs.Fits.{current_below}
+use Rattle.runs.proofs.Ready.{MapsOf, ReadyFor, ReadyNow, now_made, now_kept}
 
 -- before a burst: what is left to be run is the rest of the whole
 pub record Going (whole : Rest) (onlyToCall : Bool) (left : ℕ) (m : Machine) (memory : List ℕ) : Type 0 where
@@ -63,6 +67,33 @@ module _ {whole : Rest} {onlyToCall : Bool} {budget : ℕ} {m : Machine} {memory
             ∙ sym (resumes onlyToCall m budget memory (current_file going.fit) going.normal)
             ∙ going.same;
       }
+
+-- A turn: the maps of the current guest are made, or they are there; and then its burst.
+
+module _ {whole : Rest} {onlyToCall : Bool} {budget size : ℕ} {m : Machine} {memory : List ℕ} {marks : List Bool} {loads stores : List ℕ}
+    (begun : Going whole onlyToCall budget m memory × (ReadyFor m marks loads stores × (length memory ≡ size)))
+    {marks' : List Bool} {loads' stores' : List ℕ} where
+  pub maps_made : {load store : ℕ}
+      → (load ≡ pages_for m.records m.m m.current (mailbox_at m.mailboxes m.current).tx)
+      × (store ≡ pages_for m.records m.m m.current (mailbox_at m.mailboxes m.current).rx)
+      → marks' ≡ set marks m.current.0 true → loads' ≡ set loads m.current.0 load → stores' ≡ set stores m.current.0 store
+      → ReadyNow m marks' loads' stores'
+  unfolding mailbox_at
+  maps_made maps e f g = now_made m begun.1.0 (current_below begun.0.fit) (record { by_tx = maps.0; by_rx = maps.1 }) e f g
+
+  pub maps_kept : get_or marks m.current.0 false ≡ true → marks' ≡ marks → loads' ≡ loads → stores' ≡ stores
+      → ReadyNow m marks' loads' stores'
+  maps_kept is e f g = now_kept m begun.1.0 is e f g
+
+  pub turned : {b : Burst} → ReadyNow m marks' loads' stores'
+      → b ≡ burst_of (by_maps (get_or loads' m.current.0 0) (get_or stores' m.current.0 0)) budget (own_registers m) memory
+      → 0 < budget → Stopped whole onlyToCall budget m b
+  turned now was some = bursts begun.0 (now.0.of_marked _ now.1) was some
+
+-- a burst takes something of its budget
+pub burst_less : (rights : Rights) (budget : ℕ) (file : Registers) (memory : List ℕ) {b : Burst} → b ≡ burst_of rights budget file memory
+    → 0 < budget → b.left < budget
+burst_less rights budget file memory was some = rw was (burst_takes rights budget file memory some)
 
 -- nothing is left
 pub over : {whole : Rest} {onlyToCall : Bool} {left : ℕ} {m : Machine} {memory : List ℕ} → Going whole onlyToCall left m memory → left ≤ 0
@@ -196,5 +227,8 @@ pub record Met (after : State) (size : ℕ) (loads stores : List ℕ) (m : Machi
   pub ready : ReadyFor m marks loads stores
 
 pub meets : {after : State} {size : ℕ} {loads stores : List ℕ} {m k : Machine} {memory last : List ℕ} {marks marked : List Bool}
-    → memory ≡ last → m ≡ k → marks ≡ marked → Met after size loads stores k last marked → Met after size loads stores m memory marks
-meets e f g met = rw (e, f, g) met
+    → memory ≡ last → m ≡ k → marks ≡ marked
+    → state k last ≡ after → length last ≡ size → ReadyFor k marked loads stores → Met after size loads stores m memory marks
+meets {after} {size} {loads} {stores} {m} {k} {memory} {last} {marks} {marked} e f g did long ready =
+    let met : Met after size loads stores k last marked = record { did = did; long = long; ready = ready } in
+    rw (e, f, g) met
