@@ -1,11 +1,19 @@
 -- The laws of loops that count up: one that tests every number, and one that sets the values at n places.
-use Prim.Native.Nat.{ℕ, ◌+◌, ◌≤◌, ◌<◌}
-use mathlib.Core.Path.{◌≡◌, refl, sym, ◌∙◌}
+use Prim.Native.Nat.{ℕ, zero, suc, ◌+◌, ◌≤◌, ◌<◌}
+use Rattle.std.proofs.Common.{arith}
+use mathlib.Core.Path.{◌≡◌, refl, sym, ap, ◌∙◌}
 use mathlib.Core.Bool.{Bool, true, false}
 use mathlib.Core.List.{List}
-use native.Mathlib.Nat.{le_antisymm}
+use native.Mathlib.Nat.{le_antisymm, le_of_suc-le}
 use native.Mathlib.Numerals.{add-one}
-use lib.ListN.{set}
+use lib.ListN.{set, length, take, get_or}
+
+use Rattle.std.specs.List.{list_all}
+use Rattle.std.proofs.lemmas.List.{take_all}
+use Rattle.std.proofs.lemmas.List.Folds.{list_all_more}
+use Rattle.std.proofs.Math.Nat.{le_of_eq}
+use Rattle.std.specs.Prelude.{◌&&◌}
+use Rattle.isa.specs.Tests.{◌and◌}
 use Rattle.isa.proofs.Tests.{not_both, cannot_pass, and_intro}
 use Rattle.model.specs.Tests.{every, set_each}
 use Rattle.model.proofs.Tests.{every_at}
@@ -51,3 +59,24 @@ set_more i place value l e = rw (add-one i, e)
 pub set_whole : {A : Type 0} {i n : ℕ} (place : ℕ → ℕ) (value : ℕ → A) (l : List A) {now : List A}
     → i ≤ n → n ≤ i → now ≡ set_each i place value l → now ≡ set_each n place value l
 set_whole place value l h b e = rw (le_antisymm b h) e
+
+-- A list asked by number below n, or its first n elements one after the other.
+
+same_test : (a b : Bool) → (a && b) ≡ (a and b)
+unfolding ◌and◌
+same_test true b = refl
+same_test false b = refl
+
+pub every_taken : {A : Type 0} (d : A) (p : A → Bool) (xs : List A) (n : ℕ) → n ≤ length xs
+    → list_all p (take n xs) ≡ every n (λ k. p (get_or xs k d))
+unfolding every
+every_taken d p xs zero h = refl
+every_taken d p xs (suc n) h =
+    let on = every_taken d p xs n (le_of_suc-le h) in
+    let more : list_all p (take (n + 1) xs) ≡ (list_all p (take n xs) && p (get_or xs n d)) = list_all_more p xs n d (omega arith) in
+    rw (← add-one n, more, on) (same_test _ _)
+
+-- all of them
+pub every_listed : {A : Type 0} (d : A) (p : A → Bool) (xs : List A) {n : ℕ} → length xs ≡ n
+    → list_all p xs ≡ every n (λ k. p (get_or xs k d))
+every_listed d p xs e = ap (list_all p) (sym (take_all _ xs (le_of_eq e))) ∙ every_taken d p xs _ (le_of_eq (sym e))

@@ -31,14 +31,5 @@ fn page_count_in_range(life: Life) -> bool
 pub fn page_counts_in_range(transactions: [Transaction; 16]) -> bool
     ensures { result ≡ page_counts_in_range transactions }
 {
-    let mut h: usize = 0;
-    while h < 16 {
-        let t = transactions[h];
-        let life = t.life;
-        if !page_count_in_range(life) {
-            return false;
-        }
-        h += 1;
-    }
-    true
+    transactions.iter().all(|t| page_count_in_range(t.life))
 }

@@ -1,22 +1,19 @@
--- `sound::counts::page_counts_in_range` meets its contract: what the loop keeps from turn to turn is what the definition
--- says.
-use Rattle.std.proofs.Common.{arith}
-use Rattle.model.specs.Sound.{each_deal, page_counts_in_range}
+use Rattle.std.proofs.Common.{rules, ◌∙◌, leb}
+use Rattle.std.proofs.lemmas.Iterator.{YieldsList-from_slice}
+use Rattle.std.proofs.lemmas.Iterator.Search.{all_from_yields_List}
+use borrow.Author.Tests.{tests}
+use Rattle.isa.specs.Tests.{◌and◌}
+use Rattle.std.specs.Prelude.{Bool}
+use Rattle.model.specs.declared.Transaction.{Transaction}
 use Rattle.model.specs.State.{transaction_at}
-use Rattle.parts.proofs.Loops.{asked_more, asked_stops, asked_whole, every_none}
+use Rattle.model.specs.Constants.{PLACES}
+use Rattle.model.specs.Sound.{if_live, each_deal, page_counts_in_range}
+use Rattle.parts.proofs.Loops.{every_listed}
 use Rattle.sound.proofs.counts.page_counts_in_range.Goals as goal
 
-pub loop-h-init : goal.loop-h-init
-loop-h-init c = (omega arith, every_none _)
-
-pub returns-then-not-page_count_in_range : goal.returns-then-not-page_count_in_range
-unfolding page_counts_in_range each_deal transaction_at
-returns-then-not-page_count_in_range c = asked_stops _ c.loop-h-test.true c.page_count_in_range.ensures c.if-not-page_count_in_range.true
-
-pub loop-h-preserved : goal.loop-h-preserved
-unfolding transaction_at
-loop-h-preserved c = (omega arith, asked_more _ _ c.loop-h.invariant.1 c.page_count_in_range.ensures c.if-not-page_count_in_range.false)
+abbrev in_range : Transaction → Bool
+in_range t = if_live t.life (λ d. leb 1 d.count and leb d.count PLACES)
 
 pub returns : goal.returns
-unfolding page_counts_in_range each_deal
-returns c = asked_whole _ c.loop-h.invariant c.loop-h-test.false
+unfolding page_counts_in_range each_deal transaction_at
+returns c = all_from_yields_List in_range _ _ _ c.all.ensures.ran (YieldsList-from_slice c.args.transactions cc) (λ x b q k. search (rules, tests)) ∙ every_listed _ in_range c.args.transactions (search rules)
