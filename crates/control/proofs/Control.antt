@@ -1,4 +1,6 @@
 -- The ways out of the calls Run, Yield, Poll and Wait, and what each leaves. Each law begins with the test that leads there.
+use Rattle.std.specs.Prelude.{Option, None}
+use Rattle.model.specs.declared.Message.{Message}
 use Prim.Native.Nat.{ℕ}
 use mathlib.Core.Path.{◌≡◌, sym, ◌∙◌}
 use mathlib.Core.Bool.{Bool, true, false}
@@ -13,9 +15,6 @@ use Rattle.parts.specs.declared.numbers.SomeVm.{SomeVm}
 use Rattle.parts.specs.declared.numbers.SomeVm.TheVariants.{Nobody, Vm}
 use Rattle.model.specs.declared.VmId.{VmId}
 use Rattle.model.specs.declared.Registers.{Registers}
-use Rattle.model.specs.declared.Inbox.{Inbox}
-use Rattle.model.specs.declared.Inbox.TheVariants.{Empty}
-use Rattle.model.specs.declared.InboxSlot.{InboxSlot}
 use Rattle.model.specs.declared.Machine.{Machine}
 use Rattle.model.specs.Constants.{DENIED, INVALID, NO_DATA, YIELD, WAIT, SEND}
 use Rattle.model.specs.State.{state, vm, same_vm, is_primary, argument, written, with_registers, with_inbox, with_inboxes, with_current, own_inbox, is_empty, length_of, sender_of}
@@ -38,7 +37,7 @@ unfolding is_primary same_vm
 word_of_secondary w e = let other : w ≡ 0 → ⊥ = eqb-false w 0 e in le-leb 1 w (omega arith)
 
 -- an inbox, read and then tested
-pub inbox_tested : {inbox there : Inbox} {b : Bool} → b ≡ is_empty inbox → inbox ≡ there → is_empty there ≡ b
+pub inbox_tested : {inbox there : Option Message} {b : Bool} → b ≡ is_empty inbox → inbox ≡ there → is_empty there ≡ b
 inbox_tested test read = rw (← read) (sym test)
 
 -- whom R1 names, as it is read and then looked up
@@ -48,14 +47,14 @@ word_named m read look is = rw (← read, ← look) is
 
 -- a message taken, step by step
 pub message_taken :
-    (m : Machine) {inbox : Inbox} {sender : VmId} {length : ℕ} {said named all : List Registers} {emptied : List InboxSlot}
+    (m : Machine) {inbox : Option Message} {sender : VmId} {length : ℕ} {said named all : List Registers} {emptied : List (Option Message)}
     → inbox ≡ own_inbox m
     → said ≡ written m.registers m.current 0 SEND
     → sender ≡ sender_of inbox
     → named ≡ written said m.current 1 sender.0
     → length ≡ length_of inbox
     → all ≡ written named m.current 2 length
-    → emptied ≡ with_inbox m.inboxes m.current Empty
+    → emptied ≡ with_inbox m.inboxes m.current None
     → with_inboxes (with_registers m all) emptied ≡ polled m
 unfolding polled noted
 message_taken m read say from name count end empty = rw (empty, end, count, name, from, say, read)

@@ -1,4 +1,7 @@
 -- What the proofs of a message share: the loops that copy words, the page that is lent to the copier, and the ways out of Send.
+use Rattle.model.specs.State.{message, state, same_vm, primary, is_primary, argument, written, with_registers, mailbox_at, own_mailbox, inbox_at, is_empty, with_inbox, with_inboxes}
+use Rattle.std.specs.Prelude.{Option, Some}
+use Rattle.model.specs.declared.Message.{Message}
 use Prim.Native.Nat.{ℕ, ◌+◌, ◌*◌, ◌-◌, ◌≤◌, ◌<◌}
 use mathlib.Core.Path.{◌≡◌, refl, ◌∙◌}
 use mathlib.Core.Bool.{Bool, true, false, not}
@@ -17,11 +20,8 @@ use Rattle.parts.specs.Numbers.{vm_of}
 use Rattle.parts.specs.declared.numbers.SomeVm.TheVariants.{Nobody, Vm}
 use Rattle.model.specs.declared.VmId.{VmId}
 use Rattle.model.specs.declared.Registers.{Registers}
-use Rattle.model.specs.declared.Inbox.TheVariants.{Full}
-use Rattle.model.specs.declared.InboxSlot.{InboxSlot}
 use Rattle.model.specs.declared.Machine.{Machine}
 use Rattle.model.specs.Constants.{PAGE, GUESTS, SEND, INVALID, BUSY}
-use Rattle.model.specs.State.{state, same_vm, primary, is_primary, argument, written, with_registers, mailbox_at, own_mailbox, inbox_at, is_empty, with_inbox, with_inboxes}
 use Rattle.model.specs.Memory.{base_of, tx_words}
 use Rattle.model.specs.Reply.{passes, need, with_error, succeeded, handed_over, is_other}
 use Rattle.model.specs.Send.{delivered_to, send_to, send_length, send_base, send_verdict, notified, delivered, copied, send_effect}
@@ -82,8 +82,8 @@ page_back mem new base words e h b =
     rw (whole, ← e, append_assoc, front_and_rest (drop base mem) words PAGE h inside, drop-drop, append_assoc)
 
 -- The receiver's inbox says from whom, and how long.
-pub message_delivered : (m : Machine) (receiver : VmId) (words : ℕ) {filled : List InboxSlot}
-    → filled ≡ with_inbox m.inboxes receiver (Full words m.current) → with_inboxes m filled ≡ delivered_to m receiver words
+pub message_delivered : (m : Machine) (receiver : VmId) (words : ℕ) {filled : List (Option Message)}
+    → filled ≡ with_inbox m.inboxes receiver (Some (message words m.current)) → with_inboxes m filled ≡ delivered_to m receiver words
 message_delivered m receiver words e = rw e
 
 -- A secondary's message: guest 0 is handed the machine, and its R2 has the receiver.

@@ -1,4 +1,7 @@
 -- The ways out of message, and what each gives; that the words that wait lie inside memory.
+use Rattle.model.specs.State.{message, mailbox_at, inbox_at, length_of}
+use Rattle.std.specs.Prelude.{Option, None, Some}
+use Rattle.model.specs.declared.Message.{Message}
 use Prim.Native.Nat.{ℕ, ◌+◌, ◌*◌, ◌-◌, ◌≤◌, ◌<◌}
 use mathlib.Core.Path.{◌≡◌, refl, sym, ◌∙◌}
 use mathlib.Core.Bool.{true, false}
@@ -10,13 +13,10 @@ use borrow.Author.Tests.{lt-ltb, le-ltb}
 use Rattle.model.specs.declared.VmId.{VmId}
 use Rattle.model.specs.declared.PageId.{PageId}
 use Rattle.model.specs.declared.Mailbox.{Mailbox}
-use Rattle.model.specs.declared.Inbox.{Inbox}
-use Rattle.model.specs.declared.Inbox.TheVariants.{Empty, Full}
 use Rattle.model.specs.declared.Machine.{Machine}
 use Rattle.model.specs.declared.Answer.{Answer}
 use Rattle.model.specs.declared.Answer.TheVariants.{Done}
 use Rattle.model.specs.Constants.{PAGE, GUESTS}
-use Rattle.model.specs.State.{mailbox_at, inbox_at, length_of}
 use Rattle.model.specs.Answer.{is_done}
 use Rattle.model.specs.Sound.{Sound}
 use Rattle.model.specs.Memory.{base_of}
@@ -25,11 +25,11 @@ use Rattle.model.proofs.Entries.{is_done_lem, done_memory, done_sound}
 use Rattle.isa.specs.Tests.{◌and◌}
 
 -- a message fits a page, and none does too
-fits_page : (inbox : Inbox) → ((words : ℕ) (sender : VmId) → inbox ≡ Full words sender → (1 ≤ words) × (words ≤ PAGE))
+fits_page : (inbox : Option Message) → ((words : ℕ) (sender : VmId) → inbox ≡ Some (message words sender) → (1 ≤ words) × (words ≤ PAGE))
     → length_of inbox ≤ PAGE
 unfolding length_of
-fits_page Empty in_range = omega arith
-fits_page (Full words sender) in_range = (in_range words sender refl).1
+fits_page None in_range = omega arith
+fits_page (Some (message words sender)) in_range = (in_range words sender refl).1
 
 -- so many words from a page's start on: they lie inside memory, and are what waits for guest g, where it waits
 pub record Waits (m : Machine) (memory : List ℕ) (g : VmId) (p : PageId) (words : ℕ) : Type 0 where
@@ -73,7 +73,7 @@ module _ (m : Machine) (memory : List ℕ) (g : VmId) (answer : Answer) (e : ans
     guest_below below = let few = whole.counts_in_range.eight_guests in omega arith
 
     -- what waits, read part by part
-    pub message_waits : {inbox : Inbox} {box : Mailbox} {words : ℕ} → g.0 < m.n → inbox ≡ inbox_at m.inboxes g
+    pub message_waits : {inbox : Option Message} {box : Mailbox} {words : ℕ} → g.0 < m.n → inbox ≡ inbox_at m.inboxes g
         → words ≡ length_of inbox → box ≡ mailbox_at m.mailboxes g → Waits m memory g box.rx words
     unfolding message_of waiting message_place base_of ◌and◌
     message_waits below read count kept =

@@ -1,5 +1,8 @@
 -- Steps with what is left of the budget are the model's runs; what a run of either kind leaves; and a step is a run of one.
 -- Assumes nothing.
+use Rattle.model.specs.ToCall.{made, Leg, leg, leg_after_step, calls_next, to_call, WentToCall, went_to_call, run_to_call_of}
+use Rattle.std.specs.Prelude.{Option, None, Some}
+use Rattle.model.specs.declared.MadeCall.{MadeCall}
 use Prim.Native.Nat.{ℕ, zero, suc, ◌+◌, ◌-◌, ◌*◌, ◌≤◌}
 use mathlib.Core.Path.{◌≡◌, refl, sym, ap, ◌∙◌}
 use mathlib.Core.Bool.{Bool, true, false, false≢true}
@@ -10,15 +13,12 @@ use Rattle.isa.specs.Tests.{◌and◌}
 use Rattle.model.specs.declared.Machine.{Machine}
 use Rattle.model.specs.declared.Answer.{Answer}
 use Rattle.model.specs.declared.Answer.TheVariants.{Done, Stopped}
-use Rattle.model.specs.declared.NextCall.{NextCall}
-use Rattle.model.specs.declared.NextCall.TheVariants.{None, Made}
 use Rattle.model.specs.Constants.{PAGE}
 use Rattle.model.specs.State.{State, state, argument, is_normal}
 use Rattle.model.specs.Answer.{answer_number, answers, is_done}
 use Rattle.model.specs.Sound.{sound}
 use Rattle.model.specs.Step.{step_effect}
 use Rattle.model.specs.Entries.{check_of, then_mode, acted, acted_by, step_of, one_more, steps, went_by, run_of}
-use Rattle.model.specs.ToCall.{Leg, leg, leg_after_step, calls_next, to_call, WentToCall, went_to_call, run_to_call_of}
 use Rattle.isa.proofs.Tests.{not_both}
 use Rattle.model.proofs.Sound.{holds_sound}
 use Rattle.model.proofs.Entries.{done_memory, done_sound}
@@ -46,7 +46,7 @@ module _ (onlyToCall : Bool) (budget : ℕ) (s : State) where
   advance_off e = rw (e, advance_of)
 
   advance_calls : is_normal s.machine.mode ≡ true → onlyToCall and calls_next s ≡ true
-      → advance_of onlyToCall (suc budget) s ≡ rest (step_effect s) budget (Made s.machine.current (argument s.machine 0))
+      → advance_of onlyToCall (suc budget) s ≡ rest (step_effect s) budget (Some (made s.machine.current (argument s.machine 0)))
   unfolding advance_of
   advance_calls normal e = rw (normal, e, advance_of)
 
@@ -68,7 +68,7 @@ either_off false (suc budget) s e = rw (steps_off budget s e)
 either_off true budget s e = leg_off budget s e
 
 either_calls : (onlyToCall : Bool) (budget : ℕ) (s : State) → is_normal s.machine.mode ≡ true → onlyToCall and calls_next s ≡ true
-    → leg_of onlyToCall (suc budget) s ≡ leg (step_effect s) 1 (Made s.machine.current (argument s.machine 0))
+    → leg_of onlyToCall (suc budget) s ≡ leg (step_effect s) 1 (Some (made s.machine.current (argument s.machine 0)))
 unfolding leg_of ◌and◌
 either_calls false budget s normal e = absurd (false≢true e)
 either_calls true budget s normal e = leg_calls budget s normal e
@@ -110,7 +110,7 @@ alike onlyToCall (suc budget) s =
         rw (either_on onlyToCall budget s n e, advance_on onlyToCall budget s n e) (alike_more budget _ _ a)
 
 -- what steps leave tells the leg
-module _ (onlyToCall : Bool) (budget : ℕ) (s : State) {after : State} {left : ℕ} {call : NextCall}
+module _ (onlyToCall : Bool) (budget : ℕ) (s : State) {after : State} {left : ℕ} {call : Option MadeCall}
     (did : rest after left call ≡ advance_of onlyToCall budget s) where
   told_leg : Alike budget (leg_of onlyToCall budget s) (rest after left call)
   told_leg = rw did (alike onlyToCall budget s)
@@ -159,7 +159,7 @@ module _ (onlyToCall : Bool) (m : Machine) (memory : List ℕ) (budget : ℕ) (a
           ∙ ap (went_to_call (check_of m memory)) (either_off onlyToCall budget (state m memory) n)
       go true true d n = absurd (not_both (ap is_done (sym (mode_normal answer m.mode d n))) stays)
 
-  pub walk_goes : is_done (then_mode answer m.mode) ≡ true → {after : State} {left : ℕ} {call : NextCall}
+  pub walk_goes : is_done (then_mode answer m.mode) ≡ true → {after : State} {left : ℕ} {call : Option MadeCall}
       → rest after left call ≡ advance_of onlyToCall budget (state m memory)
       → went_to_call answer (leg after (budget - left) call) ≡ walk_of onlyToCall m memory budget
   unfolding answer_number answers

@@ -1,10 +1,9 @@
 -- What the entries leave: their result, and the lent memory as they return.
-use Rattle.std.specs.Prelude.{ℕ, Bool, true, false, List}
+use Rattle.std.specs.Prelude.{ℕ, Bool, true, false, List, None}
 use Rattle.model.specs.declared.Machine.{Machine}
 use Rattle.model.specs.declared.Stepped.{Stepped}
 use Rattle.model.specs.declared.Ran.{Ran}
 use Rattle.model.specs.declared.RanToCall.{RanToCall}
-use Rattle.model.specs.declared.NextCall.TheVariants.{None}
 use Rattle.model.specs.Entries.{Acted, Went, run_of}
 use Rattle.model.specs.ToCall.{WentToCall, run_to_call_of}
 

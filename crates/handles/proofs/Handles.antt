@@ -1,5 +1,6 @@
 -- The laws of the calls on a handle: what a handle word finds; what the deeds ask, from soundness; how each deed settles its
 -- handle; and the ways out of the one chain of tests, over who may, which mark and which deed.
+use Rattle.std.specs.Prelude.{Option, None, Some}
 use Prim.Native.Nat.{ℕ, ◌≤◌, ◌<◌}
 use mathlib.Core.Path.{◌≡◌, refl, sym, ◌∙◌}
 use mathlib.Core.Bool.{Bool, true, false, not}
@@ -11,9 +12,7 @@ use Rattle.model.specs.declared.VmId.{VmId}
 use Rattle.model.specs.declared.Handle.{Handle}
 use Rattle.model.specs.declared.PageRecord.{PageRecord}
 use Rattle.model.specs.declared.Deal.{Deal}
-use Rattle.model.specs.declared.Life.{Life}
 use Rattle.model.specs.declared.Transaction.{Transaction}
-use Rattle.model.specs.declared.Found.TheVariants.{Nothing, Live}
 use Rattle.model.specs.declared.Machine.{Machine}
 use Rattle.model.specs.Constants.{HANDLES, INVALID, DENIED, ABORTED}
 use Rattle.model.specs.Tests.{agree, every}
@@ -30,17 +29,17 @@ use Rattle.parts.proofs.Answers.{need_fails, need_passes, refusal, success}
 
 -- Looking up.
 
-pub above_finds_nothing : (transactions : List Transaction) (w : ℕ) → HANDLES ≤ w → Nothing ≡ lookup transactions w
+pub above_finds_nothing : (transactions : List Transaction) (w : ℕ) → HANDLES ≤ w → None ≡ lookup transactions w
 unfolding lookup
 above_finds_nothing transactions w h = rw (le-ltb w HANDLES h)
 
-pub handle_finds : (transactions : List Transaction) (w : ℕ) {there : Life} → w < HANDLES
-    → (transaction_at transactions (handle w)).life ≡ there → found_in (handle w) there ≡ lookup transactions w
+pub handle_finds : (transactions : List Transaction) (w : ℕ) {there : Option Deal} → w < HANDLES
+    → (transaction_at transactions (handle w)).deal ≡ there → found_in (handle w) there ≡ lookup transactions w
 unfolding lookup
 handle_finds transactions w h e = rw (lt-ltb w HANDLES h, e)
 
 -- What the caller of a sound machine finds, the deeds take.
-pub found_dealt : (m : Machine) (h : Handle) (d : Deal) → sound m ≡ true → own_found m ≡ Live h d → Dealt m h d
+pub found_dealt : (m : Machine) (h : Handle) (d : Deal) → sound m ≡ true → own_found m ≡ Some (h, d) → Dealt m h d
 unfolding own_found count_of count_in
 found_dealt m h d e f =
     let found = lookup_live m.transactions (argument m 1) h d f in
@@ -147,11 +146,11 @@ must_be_clear true = refl
 must_be_clear false = refl
 
 module _ (may : Deal → VmId → Bool) (mark : Bool) (deed : Machine → Handle → Deal → Machine) (m : Machine) (memory : List ℕ) where
-  pub nothing_found : own_found m ≡ Nothing → state (with_error m INVALID) memory ≡ handle_effect may mark deed (state m memory)
+  pub nothing_found : own_found m ≡ None → state (with_error m INVALID) memory ≡ handle_effect may mark deed (state m memory)
   unfolding handle_effect handle_verdict
   nothing_found found = refusal m memory _ (rw found)
 
-  module _ {h : Handle} {d : Deal} (found : own_found m ≡ Live h d) where
+  module _ {h : Handle} {d : Deal} (found : own_found m ≡ Some (h, d)) where
     -- the model's verdict is the chain's
     chained : {party marked : Bool} {v : Verdict} → party ≡ may d m.current → marked ≡ agree d.retrieved mark
         → v ≡ chain m h d party marked → handle_verdict may mark m (own_found m) ≡ v

@@ -1,5 +1,7 @@
 -- What every draft keeps, and the way through an image: what every draft keeps is known of a good verdict's machine.
 -- Assumes nothing.
+use Rattle.std.specs.Prelude.{Option, None}
+use Rattle.model.specs.declared.Message.{Message}
 use Prim.Native.Nat.{ℕ, zero, suc, ◌≤◌, ◌<◌}
 use mathlib.Core.Path.{◌≡◌, refl, sym, ap, ◌∙◌}
 use mathlib.Core.Bool.{Bool, true, false, cond, true≢false, false≢true}
@@ -16,9 +18,6 @@ use Rattle.model.specs.declared.PageId.{PageId}
 use Rattle.model.specs.declared.VmSet.{VmSet}
 use Rattle.model.specs.declared.Registers.{Registers}
 use Rattle.model.specs.declared.Mailbox.{Mailbox}
-use Rattle.model.specs.declared.Inbox.TheVariants.{Empty}
-use Rattle.model.specs.declared.InboxSlot.{InboxSlot}
-use Rattle.model.specs.declared.Owner.TheVariants.{Nobody}
 use Rattle.model.specs.declared.PageRecord.{PageRecord}
 use Rattle.model.specs.declared.Transaction.{Transaction}
 use Rattle.model.specs.declared.Mode.{Mode}
@@ -48,8 +47,7 @@ use Rattle.image.specs.declared.Verdict.TheVariants.{Good}
 use Rattle.image.specs.declared.Judged.{Judged}
 use Rattle.image.specs.Pieces.{image_kinds, record_from, end_of, cut}
 use Rattle.image.specs.Contents.{content_of}
-use Rattle.image.specs.Drafts.{begun, unused, describable, ownable, complete, fits, is_counts, may_stand}
-use Rattle.image.specs.Drafts.{with_pc, with_counts, with_guest, with_owner, with_budget, taken}
+use Rattle.image.specs.Drafts.{begun, unused, describable, ownable, complete, fits, is_counts, may_stand, with_pc, with_counts, with_guest, with_owner, with_budget, taken}
 use Rattle.image.specs.Judging.{Turn, stops, goes_on, broken, at_end, tried, turn, follow, judged_from, judged_of}
 
 -- A way through an image: Along holds where a record is looked at, and stays so behind each record that may stand; so the
@@ -118,7 +116,7 @@ with_more : (k g : ℕ) (s : VmSet) → has (vm k) s ≡ true → has (vm k) (wi
 with_more k g s e = has_with (vm k) (vm g) s ∙ or_right _ e
 
 -- a spare page's row is no mailbox page's
-pub spare_no_mailbox : (g : VmId) → free_row Nobody ≡ mailbox_row g → ⊥
+pub spare_no_mailbox : (g : VmId) → free_row None ≡ mailbox_row g → ⊥
 unfolding free_row mailbox_row
 spare_no_mailbox g e = false≢true (ap (λ (r : PageRecord). r.exclusive) e)
 
@@ -141,7 +139,7 @@ pub data Use (n : ℕ) (described : VmSet) (boxes : List Mailbox) (p : ℕ) (row
   kept_by :
       (g : ℕ) → has (vm g) described ≡ true → keeps (mailbox_at boxes (vm g)) (page p) ≡ true → Use n described boxes p row
   owned_by : (g : VmId) → g.0 < n → row ≡ owned_row g → Use n described boxes p row
-  spare : row ≡ free_row Nobody → Use n described boxes p row
+  spare : row ≡ free_row None → Use n described boxes p row
 
 -- Pages: a described guest has two mailbox pages below m, with their row; every page below m has a use; the others are spare.
 pub record Pages (n m : ℕ) (described : VmSet) (boxes : List Mailbox) (records : List PageRecord) : Type 0 where
@@ -153,11 +151,11 @@ pub record Pages (n m : ℕ) (described : VmSet) (boxes : List Mailbox) (records
       (g p : ℕ) → has (vm g) described ≡ true → keeps (mailbox_at boxes (vm g)) (page p) ≡ true
       → record_at records (page p) ≡ mailbox_row (vm g)
   pub used : (p : ℕ) → p < m → Use n described boxes p (record_at records (page p))
-  pub spare_behind : (p : ℕ) → p < PAGES → m ≤ p → record_at records (page p) ≡ free_row Nobody
+  pub spare_behind : (p : ℕ) → p < PAGES → m ≤ p → record_at records (page p) ≡ free_row None
 
 -- The rest is as it was before the first record.
-pub record Still (inboxes : List InboxSlot) (transactions : List Transaction) (current : VmId) (mode : Mode) : Type 0 where
-  pub nothing_waits : inboxes ≡ replicate GUESTS (record { inbox = Empty })
+pub record Still (inboxes : List (Option Message)) (transactions : List Transaction) (current : VmId) (mode : Mode) : Type 0 where
+  pub nothing_waits : inboxes ≡ replicate GUESTS None
   pub handles_free : transactions ≡ replicate HANDLES freed
   pub current_is_primary : current ≡ primary
   pub mode_is_normal : mode ≡ Normal
@@ -174,7 +172,7 @@ pub record Drawn (d : Draft) : Type 0 where
 
 record Unused (m : ℕ) (records : List PageRecord) (p : ℕ) : Type 0 where
   below : p < m
-  row : record_at records (page p) ≡ free_row Nobody
+  row : record_at records (page p) ≡ free_row None
 
 unused_link : (m : ℕ) (records : List PageRecord) (p : ℕ) → Link (unused m records p) (Unused m records p)
 unfolding unused

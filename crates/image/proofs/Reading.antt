@@ -1,5 +1,6 @@
 -- What the proofs of reading share: the counts of a draft stay in range, record by record; which way a test of a record goes;
 -- and that the numbers of a record that fits are numbers of guests and pages.
+use Rattle.std.specs.Prelude.{None}
 use Prim.Native.Nat.{ℕ, ◌+◌, ◌*◌, ◌-◌, ◌≤◌, ◌<◌}
 use mathlib.Core.Path.{◌≡◌}
 use mathlib.Core.Bool.{Bool, true, false, not, beq}
@@ -9,7 +10,6 @@ use lib.Dec.{eqb, leb}
 use borrow.Author.Tests.{ltb-true, leb-true, not-true, not-false, lt-ltb, le-ltb, le-leb, lt-leb}
 use Rattle.isa.specs.Tests.{◌and◌}
 use Rattle.model.specs.declared.PageRecord.{PageRecord}
-use Rattle.model.specs.declared.Owner.TheVariants.{Nobody}
 use Rattle.model.specs.Constants.{GUESTS, PAGES, PAGE}
 use Rattle.model.specs.State.{vm, page, record_at}
 use Rattle.model.specs.VmSet.{has}
@@ -59,7 +59,7 @@ unfolding unused ◌and◌
 unused_beyond m records p h = rw (le-ltb p m h)
 
 pub unused_below : (m : ℕ) (records : List PageRecord) (p : ℕ) {r : Bool} → p < m
-    → r ≡ same_record (record_at records (page p)) (free_row Nobody) → r ≡ unused m records p
+    → r ≡ same_record (record_at records (page p)) (free_row None) → r ≡ unused m records p
 unfolding unused ◌and◌
 unused_below m records p h e = rw (lt-ltb p m h, e)
 

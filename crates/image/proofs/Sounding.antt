@@ -1,4 +1,7 @@
 -- The machine of a good image is sound: each clause from what is known of its draft. Assumes nothing.
+use Rattle.model.specs.State.{message, vm, page, handle, register, mailbox_at, inbox_at, record_at, transaction_at, page_at, count_in, count_of}
+use Rattle.std.specs.Prelude.{Option, None, Some}
+use Rattle.model.specs.declared.Message.{Message}
 use Prim.Native.Nat.{ℕ, ◌<◌}
 use mathlib.Core.Path.{◌≡◌, refl, sym, ap, ◌∙◌}
 use mathlib.Core.Bool.{true, false, false≢true}
@@ -9,16 +12,11 @@ use Rattle.isa.proofs.Tests.{not_both, cannot_pass}
 use Rattle.model.specs.declared.VmId.{VmId}
 use Rattle.model.specs.declared.PageId.{PageId}
 use Rattle.model.specs.declared.Mailbox.{Mailbox}
-use Rattle.model.specs.declared.Inbox.TheVariants.{Empty, Full}
-use Rattle.model.specs.declared.InboxSlot.{InboxSlot}
-use Rattle.model.specs.declared.Owner.TheVariants.{Nobody, Guest}
 use Rattle.model.specs.declared.PageRecord.{PageRecord}
 use Rattle.model.specs.declared.Deal.{Deal}
-use Rattle.model.specs.declared.Life.TheVariants.{Free, Live}
 use Rattle.model.specs.declared.Transaction.{Transaction}
 use Rattle.model.specs.declared.Machine.{Machine}
 use Rattle.model.specs.Constants.{GUESTS, HANDLES, PLACES}
-use Rattle.model.specs.State.{vm, page, handle, register, mailbox_at, inbox_at, record_at, transaction_at, page_at, count_in, count_of}
 use Rattle.model.specs.VmSet.{has, only}
 use Rattle.model.specs.Row.{mailbox_row, free_row, owned_row}
 use Rattle.model.specs.Deeds.{freed}
@@ -37,9 +35,9 @@ module _ (transactions : List Transaction) (free : transactions ≡ replicate HA
   unfolding transaction_at
   free_at h b = rw free (get_or-replicate HANDLES h freed _ b)
 
-  no_deal : (h : ℕ) (d : Deal) → h < HANDLES → (transaction_at transactions (handle h)).life ≡ Live d → ⊥
+  no_deal : (h : ℕ) (d : Deal) → h < HANDLES → (transaction_at transactions (handle h)).deal ≡ Some d → ⊥
   no_deal h d b live =
-      let clash : Free ≡ Live d = sym (ap (λ (t : Transaction). t.life) (free_at h b)) ∙ live in
+      let clash : None ≡ Some d = sym (ap (λ (t : Transaction). t.deal) (free_at h b)) ∙ live in
       false≢true cc
 
   no_count : (h : ℕ) → h < HANDLES → count_of (transaction_at transactions (handle h)) ≡ 0
@@ -56,14 +54,14 @@ module _ (transactions : List Transaction) (free : transactions ≡ replicate HA
   unfolding page_at
   places_blank h i b l from = rw (free_at h b) (get_or-replicate PLACES i (page 0) _ l)
 
-module _ (inboxes : List InboxSlot) (empty : inboxes ≡ replicate GUESTS (record { inbox = Empty })) where
-  empty_at : (g : ℕ) → g < GUESTS → inbox_at inboxes (vm g) ≡ Empty
+module _ (inboxes : List (Option Message)) (empty : inboxes ≡ replicate GUESTS None) where
+  empty_at : (g : ℕ) → g < GUESTS → inbox_at inboxes (vm g) ≡ None
   unfolding inbox_at
-  empty_at g b = rw empty (ap (λ (slot : InboxSlot). slot.inbox) (get_or-replicate GUESTS g (record { inbox = Empty }) _ b))
+  empty_at g b = rw empty (ap (λ (slot : Option Message). slot.inbox) (get_or-replicate GUESTS g None _ b))
 
-  no_message : (g length : ℕ) (sender : VmId) → g < GUESTS → inbox_at inboxes (vm g) ≡ Full length sender → ⊥
+  no_message : (g length : ℕ) (sender : VmId) → g < GUESTS → inbox_at inboxes (vm g) ≡ Some (message length sender) → ⊥
   no_message g length sender b e =
-      let clash : Empty ≡ Full length sender = sym (empty_at g b) ∙ e in
+      let clash : None ≡ Some (message length sender) = sym (empty_at g b) ∙ e in
       false≢true cc
 
 -- Rows.
@@ -77,10 +75,10 @@ same_keeper g k e =
     ap (λ (v : VmId). v.0) (same_vm_true (vm g) (vm k) (sym (has_only (vm g) (vm k)) ∙ member))
 
 -- and that nobody owns it
-mailbox_unowned : (r : PageRecord) (g k : VmId) → r ≡ mailbox_row g → r.owner ≡ Guest k → ⊥
+mailbox_unowned : (r : PageRecord) (g k : VmId) → r ≡ mailbox_row g → r.owner ≡ Some k → ⊥
 unfolding mailbox_row
 mailbox_unowned r g k e q =
-    let clash : Nobody ≡ Guest k = sym (ap (λ (x : PageRecord). x.owner) e) ∙ q in
+    let clash : None ≡ Some k = sym (ap (λ (x : PageRecord). x.owner) e) ∙ q in
     false≢true cc
 
 -- an owned page's row and a spare page's are their owner's, and no mailbox page's
@@ -93,7 +91,7 @@ unfolding free_row
 owned_own r g e =
     rw e (record { owners = refl; no_mailbox = λ k q. mailbox_unowned (owned_row g) k g q refl })
 
-spare_own : (r : PageRecord) → r ≡ free_row Nobody → Own r
+spare_own : (r : PageRecord) → r ≡ free_row None → Own r
 unfolding free_row
 spare_own r e = rw e (record { owners = refl; no_mailbox = spare_no_mailbox })
 
@@ -113,11 +111,11 @@ module _ (m : Machine) (c : Built m) where
       go : Use m.n c.described m.mailboxes p (record_at m.records (page p)) → g.0 < m.n
       go (kept_by k old keeping) = absurd (mailbox_unowned _ (vm k) g (c.pages.box_row_lem k p old keeping) q)
       go (owned_by k below row) =
-          let same : Guest k ≡ Guest g = sym (ap (λ (x : PageRecord). x.owner) row) ∙ q in
+          let same : Some k ≡ Some g = sym (ap (λ (x : PageRecord). x.owner) row) ∙ q in
           let guest : k ≡ g = cc in
           rw (← guest) below
       go (spare row) =
-          let clash : Nobody ≡ Guest g = sym (ap (λ (x : PageRecord). x.owner) row) ∙ q in
+          let clash : None ≡ Some g = sym (ap (λ (x : PageRecord). x.owner) row) ∙ q in
           absurd (false≢true cc)
 
   -- a page whose row is its owner's
@@ -202,6 +200,6 @@ built_sound m c =
     free : m.transactions ≡ replicate HANDLES freed
     free = c.still.handles_free
 
-    silent : (g length : ℕ) (sender : VmId) → g < m.n → inbox_at m.inboxes (vm g) ≡ Full length sender → ⊥
+    silent : (g length : ℕ) (sender : VmId) → g < m.n → inbox_at m.inboxes (vm g) ≡ Some (message length sender) → ⊥
     silent g length sender b e =
         no_message m.inboxes c.still.nothing_waits g length sender (omega (arith, c.counts.eight_guests)) e

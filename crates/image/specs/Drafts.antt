@@ -1,12 +1,11 @@
 -- What a record may say after those before it, and what it adds to the machine so far.
-use Rattle.std.specs.Prelude.{ℕ, ◌+◌, ◌*◌, Bool, true, false, not, List, set, eqb, ltb, leb}
+use Rattle.std.specs.Prelude.{ℕ, ◌+◌, ◌*◌, Bool, true, false, not, List, set, eqb, ltb, leb, None}
 use Rattle.isa.specs.Tests.{◌and◌}
 use Rattle.model.specs.declared.VmId.{VmId}
 use Rattle.model.specs.declared.PageId.{PageId}
 use Rattle.model.specs.declared.VmSet.{VmSet}
 use Rattle.model.specs.declared.Registers.{Registers}
 use Rattle.model.specs.declared.Mailbox.{Mailbox}
-use Rattle.model.specs.declared.Owner.TheVariants.{Nobody}
 use Rattle.model.specs.declared.PageRecord.{PageRecord}
 use Rattle.model.specs.declared.Mode.TheVariants.{Normal}
 use Rattle.model.specs.declared.Machine.{Machine}
@@ -29,7 +28,7 @@ begun = record { machine = with_mode blank Normal; described = none; ended = fal
 
 -- a page below m that has no use so far: it has no owner and is no mailbox page, so its record is a spare page's
 unfoldable pub unused : ℕ → List PageRecord → ℕ → Bool
-unused m records p = ltb p m and same_record (record_at records (page p)) (free_row Nobody)
+unused m records p = ltb p m and same_record (record_at records (page p)) (free_row None)
 
 -- kind 2: a guest that is not described yet, and two pages for its mailboxes
 unfoldable pub describable : Draft → ℕ → ℕ → ℕ → Bool

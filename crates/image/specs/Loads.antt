@@ -1,6 +1,5 @@
 -- What is promised of loading. Proved in `proofs/Loads.antt`, and the worked images (`Worked.antt`) in `proofs/Computed.antt`.
-use Rattle.std.specs.Prelude.{ℕ, ◌*◌, ◌<◌, ◌≤◌, ◌≡◌, false, List, length, replicate}
-use Rattle.model.specs.declared.Inbox.TheVariants.{Empty}
+use Rattle.std.specs.Prelude.{ℕ, ◌*◌, ◌<◌, ◌≤◌, ◌≡◌, false, List, length, replicate, None}
 use Rattle.model.specs.declared.Mode.TheVariants.{Normal}
 use Rattle.model.specs.declared.Machine.{Machine}
 use Rattle.model.specs.declared.Answer.TheVariants.{Done}
@@ -27,7 +26,7 @@ LoadedPasses =
 pub record Fresh (m : Machine) : Type 0 where
   pub registers_zero : (g : ℕ) → g < GUESTS → (registers_at m.registers (vm g)).r ≡ replicate 8 0
   pub flags_clear : (g : ℕ) → g < GUESTS → (registers_at m.registers (vm g)).equal ≡ false
-  pub nothing_waits : m.inboxes ≡ replicate GUESTS (record { inbox = Empty })
+  pub nothing_waits : m.inboxes ≡ replicate GUESTS None
   pub handles_free : m.transactions ≡ replicate HANDLES freed
   pub current_is_primary : m.current ≡ primary
   pub mode_is_normal : m.mode ≡ Normal

@@ -1,6 +1,7 @@
 -- What a call does, in every state: one of the cases of `Cases.antt`.
+use Rattle.std.specs.Prelude.{Option, None, Some}
 use Prim.Native.Nat.{ℕ, ◌<◌}
-use mathlib.Core.Path.{◌≡◌, refl, ◌∙◌}
+use mathlib.Core.Path.{◌≡◌, refl, ◌∙◌, sym, ap}
 use mathlib.Core.Bool.{Bool, true, false, cond, false≢true}
 use mathlib.Core.List.{List, [], ◌∷◌}
 use lib.Dec.{ltb, eqb}
@@ -10,11 +11,7 @@ use Rattle.model.specs.declared.Handle.{Handle}
 use Rattle.model.specs.declared.Kind.{Kind}
 use Rattle.model.specs.declared.Kind.TheVariants.{Donate, Lend, Share}
 use Rattle.model.specs.declared.Deal.{Deal}
-use Rattle.model.specs.declared.Life.{Life}
-use Rattle.model.specs.declared.Life.TheVariants as life
 use Rattle.model.specs.declared.Transaction.{Transaction}
-use Rattle.model.specs.declared.Found.{Found}
-use Rattle.model.specs.declared.Found.TheVariants.{Nothing, Live}
 use Rattle.model.specs.declared.Machine.{Machine}
 use Rattle.model.specs.Constants.{HANDLES, RUN, YIELD, POLL, WAIT, SEND, RETRIEVE, RELINQUISH, RECLAIM, NOT_SUPPORTED, INVALID}
 use Rattle.model.specs.State.{State, state, handle, is_empty, own_inbox, argument, transaction_at}
@@ -112,16 +109,18 @@ sending_case kind s e = answered _ s (λ p. did_send_pages kind e p refl)
 -- Calls on a handle.
 
 -- a word that finds a deal is a live handle's
-pub lookup_live : (transactions : List Transaction) (w : ℕ) (h : Handle) (d : Deal) → lookup transactions w ≡ Live h d
-    → (w < HANDLES) × (h ≡ handle w) × ((transaction_at transactions (handle w)).life ≡ life.Live d)
+pub lookup_live : (transactions : List Transaction) (w : ℕ) (h : Handle) (d : Deal) → lookup transactions w ≡ Some (h, d)
+    → (w < HANDLES) × (h ≡ handle w) × ((transaction_at transactions (handle w)).deal ≡ Some d)
 unfolding lookup found_in
-lookup_live transactions w h d e = in_range (ltb w HANDLES) (transaction_at transactions (handle w)).life refl refl e
+lookup_live transactions w h d e = in_range (ltb w HANDLES) (transaction_at transactions (handle w)).deal refl refl e
   where
-    in_range : (b : Bool) (there : Life) → ltb w HANDLES ≡ b → (transaction_at transactions (handle w)).life ≡ there
-        → cond b (found_in (handle w) there) Nothing ≡ Live h d
-        → (w < HANDLES) × (h ≡ handle w) × ((transaction_at transactions (handle w)).life ≡ life.Live d)
-    in_range true life.Free b q e = absurd (false≢true cc)
-    in_range true (life.Live found) b q e = (ltb-true _ _ b, cc, q ∙ cc)
+    in_range : (b : Bool) (there : Option Deal) → ltb w HANDLES ≡ b → (transaction_at transactions (handle w)).deal ≡ there
+        → cond b (found_in (handle w) there) None ≡ Some (h, d)
+        → (w < HANDLES) × (h ≡ handle w) × ((transaction_at transactions (handle w)).deal ≡ Some d)
+    in_range true None b q e = absurd (false≢true cc)
+    in_range true (Some found) b q e =
+        let same : ◌≡◌ {A = Handle × Deal} (handle w, found) (h, d) = cc in
+        (ltb-true _ _ b, sym (ap (λ p. p.0) same), q ∙ ap (λ p. Some p.1) same)
     in_range false there b q e = absurd (false≢true cc)
 
 -- the call of this number on a handle: who may, the mark that it wants, and its deed
@@ -135,10 +134,10 @@ handle_case number may mark deed s by_number done = go (own_found s.machine) ref
     m : Machine
     m = s.machine
 
-    go : (found : Found) → own_found m ≡ found
+    go : (found : Option (Handle × Deal)) → own_found m ≡ found
         → CallCase s (answer (handle_verdict may mark m found) s (state (succeeded (applied deed m found)) s.memory))
-    go Nothing e = refusal INVALID s _
-    go (Live h d) e =
+    go None e = refusal INVALID s _
+    go (Some (h, d)) e =
         let found = lookup_live m.transactions (argument m 1) h d e in
         rw found.1 (answered _ s (λ p.
         done d (record {

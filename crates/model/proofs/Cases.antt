@@ -1,5 +1,6 @@
 -- What a call and a step do, case by case: for each case how it came about and what it leaves. Every theorem about acts
 -- goes by these cases.
+use Rattle.std.specs.Prelude.{Some}
 use Prim.Native.Nat.{ℕ, ◌<◌}
 use mathlib.Core.Path.{◌≡◌}
 use mathlib.Core.Bool.{Bool, true, false}
@@ -10,7 +11,6 @@ use Rattle.model.specs.declared.Registers.{Registers}
 use Rattle.model.specs.declared.Kind.{Kind}
 use Rattle.model.specs.declared.Kind.TheVariants.{Donate, Lend, Share}
 use Rattle.model.specs.declared.Deal.{Deal}
-use Rattle.model.specs.declared.Life.TheVariants.{Live}
 use Rattle.model.specs.declared.Machine.{Machine}
 use Rattle.model.specs.declared.Access.TheVariants.{Allowed}
 use Rattle.model.specs.Constants.{HANDLES, SEND, DONATE, LEND, SHARE, RETRIEVE, RELINQUISH, RECLAIM}
@@ -47,7 +47,7 @@ own_handle m = handle (argument m 1)
 pub record OnHandle (m : Machine) (number : ℕ) (may : Deal → VmId → Bool) (mark : Bool) (d : Deal) : Type 0 where
   pub by_number : argument m 0 ≡ number
   pub is_handle : argument m 1 < HANDLES
-  pub is_live : (transaction_at m.transactions (own_handle m)).life ≡ Live d
+  pub is_live : (transaction_at m.transactions (own_handle m)).deal ≡ Some d
   pub is_party : may d m.current ≡ true
   pub is_marked : d.retrieved ≡ mark
 

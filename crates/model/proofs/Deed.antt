@@ -1,5 +1,6 @@
 -- What an act does, with its event: the cases by which the promises over time are proved. For every act in every shaped
 -- state, refused ones too.
+use Rattle.std.specs.Prelude.{Some}
 use Prim.Native.Nat.{ℕ, zero, suc, ◌*◌, ◌<◌}
 use mathlib.Core.Path.{◌≡◌, refl, sym, ap, ◌∙◌}
 use mathlib.Core.Bool.{Bool, true, false, cond, false≢true}
@@ -15,7 +16,6 @@ use Rattle.model.specs.declared.Handle.{Handle}
 use Rattle.model.specs.declared.Kind.{Kind}
 use Rattle.model.specs.declared.Registers.{Registers}
 use Rattle.model.specs.declared.Deal.{Deal}
-use Rattle.model.specs.declared.Life.TheVariants.{Live}
 use Rattle.model.specs.declared.PageRecord.{PageRecord}
 use Rattle.model.specs.declared.Transaction.{Transaction}
 use Rattle.model.specs.declared.Mode.{Mode}
@@ -57,8 +57,7 @@ use Rattle.model.proofs.Steps.{step_case}
 use Rattle.model.proofs.Acts.{effect_of, after_refused, after_done, done_accepted}
 use Rattle.model.proofs.Parts.{Good, own_eight, own_keeps}
 use Rattle.model.proofs.Events.{told_called, same_call, not_successful, successful, silent, told_sent, idle, told_other, told_stored}
-use Rattle.model.proofs.Cases.{Silent, own_handle, OnHandle, CallCase, was_refused, did_run, did_hand_over, did_poll, did_send, did_send_pages, did_retrieve, did_relinquish, did_reclaim, sending_number}
-use Rattle.model.proofs.Cases.{StepCase, did_move, did_store, did_call, did_fault, did_halt}
+use Rattle.model.proofs.Cases.{Silent, own_handle, OnHandle, CallCase, was_refused, did_run, did_hand_over, did_poll, did_send, did_send_pages, did_retrieve, did_relinquish, did_reclaim, sending_number, StepCase, did_move, did_store, did_call, did_fault, did_halt}
 
 -- The cases.
 
@@ -71,15 +70,15 @@ pub record Leaves (a : Act) (s : State) (m : Machine) : Type 0 where
 pub record PagesSent (transactions : List Transaction) (records : List PageRecord)
     (k : Kind) (i j : VmId) (h : Handle) (ps : List PageId) (new : Transaction) : Type 0 where
   pub is_handle : h.0 < HANDLES
-  pub was_free : is_free (transaction_at transactions h).life ≡ true
-  pub is_deal : new.life ≡ Live (deal i j k false (length ps))
+  pub was_free : is_free (transaction_at transactions h).deal ≡ true
+  pub is_deal : new.deal ≡ Some (deal i j k false (length ps))
   pub just_these : (p : PageId) → holds new p ≡ is_in p ps
   pub were_own : (p : PageId) → is_in p ps ≡ true → record_at records p ≡ owned_row i
 
 -- handle h has the deal d, the current guest is the party that may, and the mark is as it must be
 pub record Handled (m : Machine) (may : Deal → VmId → Bool) (mark : Bool) (h : Handle) (d : Deal) : Type 0 where
   pub is_handle : h.0 < HANDLES
-  pub is_live : (transaction_at m.transactions h).life ≡ Live d
+  pub is_live : (transaction_at m.transactions h).deal ≡ Some d
   pub is_party : may d m.current ≡ true
   pub is_marked : d.retrieved ≡ mark
 

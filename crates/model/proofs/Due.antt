@@ -1,4 +1,6 @@
 -- The laws of `due`: the record that the table asks of a page in a transaction, of one in none, and of a mailbox page.
+use Rattle.std.specs.Prelude.{Option, None, Some}
+use Rattle.model.specs.declared.VmId.{VmId}
 use Prim.Native.Nat.{ℕ, ◌<◌}
 use mathlib.Core.Path.{◌≡◌, refl, ap, ◌∙◌}
 use mathlib.Core.Bool.{true, false}
@@ -8,9 +10,7 @@ use lib.ListN.{length, get_or-eq_default}
 use Rattle.model.specs.declared.PageId.{PageId}
 use Rattle.model.specs.declared.Handle.{Handle}
 use Rattle.model.specs.declared.Mailbox.{Mailbox}
-use Rattle.model.specs.declared.Owner.{Owner}
 use Rattle.model.specs.declared.Deal.{Deal}
-use Rattle.model.specs.declared.Life.TheVariants.{Free, Live}
 use Rattle.model.specs.declared.Transaction.{Transaction}
 use Rattle.model.specs.declared.Machine.{Machine}
 use Rattle.model.specs.Constants.{HANDLES}
@@ -49,24 +49,24 @@ unfolding holder
 no_holder transactions p none = ap handle (none_first _ _ none)
 
 free_behind : (transactions : List Transaction) → length transactions ≡ HANDLES
-    → (transaction_at transactions (handle HANDLES)).life ≡ Free
+    → (transaction_at transactions (handle HANDLES)).deal ≡ None
 unfolding transaction_at
-free_behind transactions e = ap (λ (t : Transaction). t.life) (get_or-eq_default transactions _ (omega arith))
+free_behind transactions e = ap (λ (t : Transaction). t.deal) (get_or-eq_default transactions _ (omega arith))
 
 -- The record due to a page.
 
-module _ (n : ℕ) (boxes : List Mailbox) (transactions : List Transaction) (owner : Owner) (p : PageId) where
+module _ (n : ℕ) (boxes : List Mailbox) (transactions : List Transaction) (owner : Option VmId) (p : PageId) where
   pub due_mailbox : is_mailbox n boxes p ≡ true → due n boxes transactions owner p ≡ mailbox_row (keeper n boxes p)
   unfolding due
   due_mailbox e = rw e
 
   pub due_in_lem : (h : Handle) → is_mailbox n boxes p ≡ false → holder transactions p ≡ h
-      → due n boxes transactions owner p ≡ due_in (transaction_at transactions h).life owner
+      → due n boxes transactions owner p ≡ due_in (transaction_at transactions h).deal owner
   unfolding due
   due_in_lem h e q = rw (e, q)
 
   pub due_held : (h : Handle) (d : Deal) → NoPageTwice transactions → h.0 < HANDLES
-      → (transaction_at transactions h).life ≡ Live d → holds (transaction_at transactions h) p ≡ true
+      → (transaction_at transactions h).deal ≡ Some d → holds (transaction_at transactions h) p ≡ true
       → is_mailbox n boxes p ≡ false → due n boxes transactions owner p ≡ row d
   unfolding due_in
   due_held h d once b live e no_box = due_in_lem h no_box (holder_is transactions h p once b e) ∙ rw live
@@ -81,7 +81,7 @@ module _ (n : ℕ) (boxes : List Mailbox) (transactions : List Transaction) (own
 -- A page of a live transaction on a sound machine.
 
 module _ (m : Machine) (sound : Sound m) (h : Handle) (d : Deal) (p : PageId) (b : h.0 < HANDLES)
-    (live : (transaction_at m.transactions h).life ≡ Live d) (e : holds (transaction_at m.transactions h) p ≡ true) where
+    (live : (transaction_at m.transactions h).deal ≡ Some d) (e : holds (transaction_at m.transactions h) p ≡ true) where
   pub page_below : p.0 < m.m
   page_below = let at = held_at _ p e in rw (← at.2) (sound.pages_below h.0 at.0 b at.1)
 

@@ -1,4 +1,5 @@
 -- The frame law of a transaction, by the deed of the act.
+use Rattle.std.specs.Prelude.{None, Some}
 use Prim.Native.Nat.{ℕ, ◌<◌}
 use mathlib.Core.Path.{◌≡◌, refl, sym, ap, ◌∙◌}
 use mathlib.Core.Bool.{Bool, true, false, false≢true}
@@ -12,7 +13,6 @@ use Rattle.model.specs.declared.VmId.{VmId}
 use Rattle.model.specs.declared.PageId.{PageId}
 use Rattle.model.specs.declared.Handle.{Handle}
 use Rattle.model.specs.declared.Deal.{Deal}
-use Rattle.model.specs.declared.Life.TheVariants.{Free, Live}
 use Rattle.model.specs.declared.Transaction.{Transaction}
 use Rattle.model.specs.State.{State, handle, transaction_at}
 use Rattle.model.specs.Row.{donates, sends, receives}
@@ -46,8 +46,8 @@ live_inside transactions h d pages slot =
     elim (dec_lt h.0 (length transactions)) [
       | yes inside ↦ inside
       | no outside ↦
-          let free : Free ≡ Live d =
-          ap (λ (t : Transaction). t.life) (sym (get_or-eq_default transactions (record { life = Free; pages = [] }) (omega arith)) ∙ slot) in
+          let free : None ≡ Some d =
+          ap (λ (t : Transaction). t.deal) (sym (get_or-eq_default transactions (record { deal = None; pages = [] }) (omega arith)) ∙ slot) in
           absurd (false≢true cc)
     ]
 
@@ -93,24 +93,24 @@ module _ (a : Act) (s : State) (h : Handle)
       }
 
   -- the handle of a sending was free
-  not_free : (k : Handle) → is_free (transaction_at s.machine.transactions k).life ≡ true → h.0 ≡ k.0 → ⊥
+  not_free : (k : Handle) → is_free (transaction_at s.machine.transactions k).deal ≡ true → h.0 ≡ k.0 → ⊥
   not_free k free same =
-      let lives : Free ≡ Live d =
+      let lives : None ≡ Some d =
       sym (is_free_lem _ free)
-      ∙ ap (λ (x : ℕ). (transaction_at s.machine.transactions (handle x)).life) (sym same)
-      ∙ ap (λ (t : Transaction). t.life) slot in
+      ∙ ap (λ (x : ℕ). (transaction_at s.machine.transactions (handle x)).deal) (sym same)
+      ∙ ap (λ (t : Transaction). t.deal) slot in
       false≢true cc
 
   -- a deal that was found under h is d
-  same_deal : (k : Handle) (found : Deal) → (transaction_at s.machine.transactions k).life ≡ Live found → h.0 ≡ k.0 → found ≡ d
+  same_deal : (k : Handle) (found : Deal) → (transaction_at s.machine.transactions k).deal ≡ Some found → h.0 ≡ k.0 → found ≡ d
   same_deal k found live same =
-      let lives : Live found ≡ Live d =
-      sym live ∙ ap (λ (x : ℕ). (transaction_at s.machine.transactions (handle x)).life) (sym same) ∙ ap (λ (t : Transaction). t.life) slot in
+      let lives : Some found ≡ Some d =
+      sym live ∙ ap (λ (x : ℕ). (transaction_at s.machine.transactions (handle x)).deal) (sym same) ∙ ap (λ (t : Transaction). t.deal) slot in
       cc
 
   -- a call on handle k, which is h or another
   on_handle : (k : Handle) (found : Deal) (event : VmId → Handle → Event) → event_of a s ≡ event s.machine.current k
-      → (transaction_at s.machine.transactions k).life ≡ Live found
+      → (transaction_at s.machine.transactions k).deal ≡ Some found
       → (new : Transaction) → (after a s).machine.transactions ≡ set s.machine.transactions k.0 new
       → (eqb k.0 h.0 ≡ false → marks (event s.machine.current k) h ≡ false)
       → (k ≡ h → found ≡ d → Stays a s h d pages) → Stays a s h d pages

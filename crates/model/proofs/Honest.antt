@@ -1,4 +1,5 @@
 -- The events are honest.
+use Rattle.std.specs.Prelude.{Option, None, Some}
 use Prim.Native.Nat.{ℕ, ◌<◌}
 use mathlib.Core.Path.{◌≡◌, refl, sym, ap, ◌∙◌}
 use mathlib.Core.Bool.{Bool, true, false, cond}
@@ -9,8 +10,6 @@ use lib.ListN.{set}
 use Rattle.model.specs.declared.VmId.{VmId}
 use Rattle.model.specs.declared.Handle.{Handle}
 use Rattle.model.specs.declared.Deal.{Deal}
-use Rattle.model.specs.declared.Life.{Life}
-use Rattle.model.specs.declared.Life.TheVariants.{Free, Live}
 use Rattle.model.specs.declared.Transaction.{Transaction}
 use Rattle.model.specs.declared.Access.TheVariants.{Allowed}
 use Rattle.model.specs.Constants.{HANDLES}
@@ -56,9 +55,9 @@ settled_life a s shaped h b new left =
     ∙ transaction_same s.machine.transactions h new (omega (arith, shaped.sixteen_transactions))
 
 -- a call on a handle that has passed
-happened : (a : Act) (s : State) → Shaped s.machine → (may : Deal → VmId → Bool) (mark : Bool) (left : Deal → Life)
+happened : (a : Act) (s : State) → Shaped s.machine → (may : Deal → VmId → Bool) (mark : Bool) (left : Deal → Option Deal)
     → (h : Handle) (d : Deal) → Handled s.machine may mark h d → (new : Transaction)
-    → (after a s).machine.transactions ≡ set s.machine.transactions h.0 new → new.life ≡ left d
+    → (after a s).machine.transactions ≡ set s.machine.transactions h.0 new → new.deal ≡ left d
     → Happened a s s.machine.current h may mark left
 happened a s shaped may mark left h d c new transactions life =
     record {
@@ -67,11 +66,11 @@ happened a s shaped may mark left h d c new transactions life =
       was_live = c.is_live;
       was_party = c.is_party;
       was_marked = c.is_marked;
-      is_left = ap (λ (t : Transaction). t.life) (settled_life a s shaped h c.is_handle new transactions) ∙ life;
+      is_left = ap (λ (t : Transaction). t.deal) (settled_life a s shaped h c.is_handle new transactions) ∙ life;
     }
 
 -- a donation's place is free, another's marked
-retrieved_life : (t : Transaction) (d : Deal) (b : Bool) → (cond b freed (redealt t (marked d true))).life ≡ cond b Free (Live (marked d true))
+retrieved_life : (t : Transaction) (d : Deal) (b : Bool) → (cond b freed (redealt t (marked d true))).deal ≡ cond b None (Some (marked d true))
 unfolding redealt
 retrieved_life t d true = refl
 retrieved_life t d false = refl
@@ -82,9 +81,9 @@ module _ (a : Act) (s : State) (shaped : Shaped s.machine) where
   Says Quiet = Unit {0}
   Says (Stored g x v) = (s.machine.current ≡ g) × (access (rights s.machine).stores s.memory x ≡ Allowed)
   Says (Sent k i j h ps) = PagesWent a s k i j h ps
-  Says (Retrieved g h) = Happened a s g h receives false (λ d. cond (donates d.kind) Free (Live (marked d true)))
-  Says (Relinquished g h) = Happened a s g h receives true (λ d. Live (marked d false))
-  Says (Reclaimed g h) = Happened a s g h sends false (λ d. Free)
+  Says (Retrieved g h) = Happened a s g h receives false (λ d. cond (donates d.kind) None (Some (marked d true)))
+  Says (Relinquished g h) = Happened a s g h receives true (λ d. Some (marked d false))
+  Says (Reclaimed g h) = Happened a s g h sends false (λ d. None)
 
   says : Deed a s → Says (event_of a s)
   unfolding Says retrieved relinquished reclaimed settled redealt holds count_of page_at
@@ -97,7 +96,7 @@ module _ (a : Act) (s : State) (shaped : Shaped s.machine) where
       (record {
         is_current = refl;
         was_free = c.was_free;
-        is_live = ap (λ (t : Transaction). t.life) slot ∙ c.is_deal;
+        is_live = ap (λ (t : Transaction). t.deal) slot ∙ c.is_deal;
         just_these = λ p. ap (λ (t : Transaction). holds t p) slot ∙ c.just_these p;
         were_own = c.were_own;
       })

@@ -1,6 +1,9 @@
 -- A run up to a call is its steps, by induction on the budget; a run is such legs, one after the other, and so are its lines; and
 -- the bench's worked cases, which antt computes.
 -- Assumes nothing.
+use Rattle.model.specs.ToCall.{made, is_called, calls_next, Leg, leg, leg_after_step, to_call, went_to_call, went_to_call_by, run_to_call_of, line_of, lines_from}
+use Rattle.std.specs.Prelude.{Option, None, Some}
+use Rattle.model.specs.declared.MadeCall.{MadeCall}
 use Prim.Native.Nat.{ℕ, zero, suc, ◌+◌, ◌-◌, ◌≤◌, ◌<◌}
 use mathlib.Core.Path.{◌≡◌, refl, sym, ap, ◌∙◌}
 use mathlib.Core.Bool.{Bool, true, false, false≢true}
@@ -11,8 +14,6 @@ use lib.ListN.{replicate}
 use Rattle.model.specs.declared.VmId.{VmId}
 use Rattle.model.specs.declared.Answer.{Answer}
 use Rattle.model.specs.declared.Answer.TheVariants.{Done}
-use Rattle.model.specs.declared.NextCall.{NextCall}
-use Rattle.model.specs.declared.NextCall.TheVariants.{None, Made}
 use Rattle.model.specs.State.{State, state, argument, is_normal}
 use Rattle.model.specs.Answer.{answer_number, answers, is_done}
 use Rattle.model.specs.Step.{step_effect}
@@ -20,7 +21,6 @@ use Rattle.model.specs.Entries.{check_of, one_more, steps, went_by, run_of}
 use Rattle.model.specs.Act.{step, after, after_all}
 use Rattle.model.specs.Kept.{Accepted}
 use Rattle.model.specs.RunSteps.{stepped}
-use Rattle.model.specs.ToCall.{is_called, calls_next, Leg, leg, leg_after_step, to_call, went_to_call, went_to_call_by, run_to_call_of, line_of, lines_from}
 use Rattle.model.specs.PCases.{box, owned, ownerless, words}
 use Rattle.model.specs.Legs.{EndsInCall, LegIsItsSteps, LegRefused, LinesEnd, line_for, ThenRest, LegThenRest, two_guests, programs, shown, line, BenchExample}
 use Rattle.model.proofs.Acts.{effect_of, after_done, accepted_done, steps_on}
@@ -47,7 +47,7 @@ leg_off zero s e = refl
 leg_off (suc budget) s e = rw (e, to_call)
 
 module _ (budget : ℕ) (s : State) (normal : is_normal s.machine.mode ≡ true) where
-  pub leg_calls : calls_next s ≡ true → to_call (suc budget) s ≡ leg (step_effect s) 1 (Made s.machine.current (argument s.machine 0))
+  pub leg_calls : calls_next s ≡ true → to_call (suc budget) s ≡ leg (step_effect s) 1 (Some (made s.machine.current (argument s.machine 0)))
   unfolding to_call
   leg_calls e = rw (normal, e, to_call)
 
@@ -58,14 +58,14 @@ module _ (budget : ℕ) (s : State) (normal : is_normal s.machine.mode ≡ true)
 -- A leg is its steps.
 
 -- the call that the next step is, and that the last of so many steps was
-unfoldable call_at : State → NextCall
-call_at s = elim (calls_next s) [ true ↦ Made s.machine.current (argument s.machine 0) | false ↦ None ]
+unfoldable call_at : State → Option MadeCall
+call_at s = elim (calls_next s) [ true ↦ Some (made s.machine.current (argument s.machine 0)) | false ↦ None ]
 
-unfoldable last_call : ℕ → State → NextCall
+unfoldable last_call : ℕ → State → Option MadeCall
 last_call zero s = None
 last_call (suc k) s = call_at (stepped k s)
 
-call_at_lem : (s : State) → calls_next s ≡ true → call_at s ≡ Made s.machine.current (argument s.machine 0)
+call_at_lem : (s : State) → calls_next s ≡ true → call_at s ≡ Some (made s.machine.current (argument s.machine 0))
 unfolding call_at
 call_at_lem s e = rw (e, call_at)
 
@@ -97,7 +97,7 @@ gone_none s budget h =
 
 module _ (s : State) (budget : ℕ) (normal : is_normal s.machine.mode ≡ true) where
   -- a call
-  gone_call : calls_next s ≡ true → Gone s (suc budget) (leg (after step s) 1 (Made s.machine.current (argument s.machine 0)))
+  gone_call : calls_next s ≡ true → Gone s (suc budget) (leg (after step s) 1 (Some (made s.machine.current (argument s.machine 0))))
   unfolding after_all stepped last_call
   gone_call e =
       record {
@@ -156,23 +156,24 @@ gone (suc budget) s ok =
     go true false n e rest = rw (leg_on budget s n e, step_acts s ok n) (gone_more s budget n _ e rest)
 
 -- the last call, named and found
-last_found : (s : State) (count : ℕ) (g : VmId) (w : ℕ) → last_call count s ≡ Made g w → EndsInCall s count g w
+last_found : (s : State) (count : ℕ) (g : VmId) (w : ℕ) → last_call count s ≡ Some (made g w) → EndsInCall s count g w
 unfolding last_call
 last_found s zero g w q = absurd (false≢true cc)
 last_found s (suc k) g w q = go (calls_next (stepped k s)) refl
   where
     go : (calls : Bool) → calls_next (stepped k s) ≡ calls → EndsInCall s (suc k) g w
     go true e =
-        let made : Made (stepped k s).machine.current (argument (stepped k s).machine 0) ≡ Made g w = sym (call_at_lem (stepped k s) e) ∙ q in
-        record { before = k; one_more = omega arith; is_call = e; caller = cc made; r0 = cc made }
-    go false e = let none : None ≡ Made g w = sym (no_call_at (stepped k s) e) ∙ q in absurd (false≢true cc)
+        let named : Some (made (stepped k s).machine.current (argument (stepped k s).machine 0)) ≡ Some (made g w) = sym (call_at_lem (stepped k s) e) ∙ q in
+        let same : ◌≡◌ {A = MadeCall} (made (stepped k s).machine.current (argument (stepped k s).machine 0)) (made g w) = cc in
+        record { before = k; one_more = omega arith; is_call = e; caller = ap (λ (c : MadeCall). c.caller) same; r0 = ap (λ (c : MadeCall). c.r0) same }
+    go false e = let none : ◌≡◌ {A = Option MadeCall} None (Some (made g w)) = sym (no_call_at (stepped k s) e) ∙ q in absurd (false≢true cc)
 
-last_named : (s : State) (count : ℕ) (g : VmId) (w : ℕ) → EndsInCall s count g w → last_call count s ≡ Made g w
+last_named : (s : State) (count : ℕ) (g : VmId) (w : ℕ) → EndsInCall s count g w → last_call count s ≡ Some (made g w)
 unfolding last_call
 last_named s count g w ends =
     ap (λ (c : ℕ). last_call c s) (ends.one_more ∙ add-one ends.before)
     ∙ call_at_lem (stepped ends.before s) ends.is_call
-    ∙ (λ i. Made (ends.caller i) (ends.r0 i))
+    ∙ (λ i. Some (made (ends.caller i) (ends.r0 i)))
 
 -- what a run up to a call leaves where the check accepts
 leg_goes : (s : State) → Accepted s → (budget : ℕ) → run_to_call_of s.machine s.memory budget ≡ went_to_call Done (to_call budget s)
@@ -225,7 +226,7 @@ rest_all budget s =
     }
 
 module _ (budget : ℕ) (s : State) (normal : is_normal s.machine.mode ≡ true) where
-  rest_call : calls_next s ≡ true → ThenRest (suc budget) s (leg (step_effect s) 1 (Made s.machine.current (argument s.machine 0)))
+  rest_call : calls_next s ≡ true → ThenRest (suc budget) s (leg (step_effect s) 1 (Some (made s.machine.current (argument s.machine 0))))
   unfolding one_more line_for
   rest_call e =
       let less : suc budget - 1 ≡ budget = omega arith in

@@ -1,5 +1,8 @@
 -- Links: a computed test and the fact that it stands for, each proved from the other. There is a link for each kind of
 -- test, from the links of its parts: what is linked reads like the test.
+use Rattle.model.specs.State.{message, same_vm, same_page, is_empty, page_at, count_of}
+use Rattle.std.specs.Prelude.{Option, None, Some}
+use Rattle.model.specs.declared.Message.{Message}
 use Prim.Native.Nat.{ℕ, suc, ◌≤◌, ◌<◌}
 use mathlib.Core.Path.{◌≡◌, refl, ap}
 use mathlib.Core.Bool.{Bool, true, false, not, false≢true}
@@ -11,17 +14,10 @@ use Rattle.isa.specs.Tests.{◌and◌, ◌or◌}
 use Rattle.model.specs.declared.VmId.{VmId}
 use Rattle.model.specs.declared.PageId.{PageId}
 use Rattle.model.specs.declared.Mailbox.{Mailbox}
-use Rattle.model.specs.declared.Inbox.{Inbox}
-use Rattle.model.specs.declared.Inbox.TheVariants.{Empty, Full}
-use Rattle.model.specs.declared.Owner.{Owner}
-use Rattle.model.specs.declared.Owner.TheVariants.{Nobody, Guest}
 use Rattle.model.specs.declared.PageRecord.{PageRecord}
 use Rattle.model.specs.declared.Deal.{Deal}
-use Rattle.model.specs.declared.Life.{Life}
-use Rattle.model.specs.declared.Life.TheVariants.{Free, Live}
 use Rattle.model.specs.declared.Transaction.{Transaction}
 use Rattle.model.specs.Tests.{every, ascending}
-use Rattle.model.specs.State.{same_vm, same_page, is_empty, page_at, count_of}
 use Rattle.model.specs.Row.{same_record}
 use Rattle.model.specs.Due.{keeps, holds}
 use Rattle.model.specs.Sound.{if_live, if_full, if_owned}
@@ -129,43 +125,43 @@ ascending_link = record { holds = ascending_at _ _; passes = at_ascending _ _ }
 
 -- The deal of a live transaction, the message that waits, the owner of an owned page.
 
-pub if_live_link : {life : Life} {test : Deal → Bool} {Fact : Deal → Type 0}
-    → ((d : Deal) → Link (test d) (Fact d)) → Link (if_live life test) ((d : Deal) → life ≡ Live d → Fact d)
+pub if_live_link : {life : Option Deal} {test : Deal → Bool} {Fact : Deal → Type 0}
+    → ((d : Deal) → Link (test d) (Fact d)) → Link (if_live life test) ((d : Deal) → life ≡ Some d → Fact d)
 unfolding if_live
 if_live_link {life} {test} {Fact} x =
     record {
       holds = λ e d q. (x d).holds (rw q at e);
       passes =
-          elim life as (λ l. ((d : Deal) → l ≡ Live d → Fact d) → if_live l test ≡ true)
-          [ Free ↦ λ c. refl | Live d ↦ λ c. (x d).passes (c d refl) ];
+          elim life as (λ l. ((d : Deal) → l ≡ Some d → Fact d) → if_live l test ≡ true)
+          [ None ↦ λ c. refl | Some d ↦ λ c. (x d).passes (c d refl) ];
     }
 
-pub if_full_link : {inbox : Inbox} {test : ℕ → VmId → Bool} {Fact : ℕ → VmId → Type 0}
+pub if_full_link : {inbox : Option Message} {test : ℕ → VmId → Bool} {Fact : ℕ → VmId → Type 0}
     → ((length : ℕ) (sender : VmId) → Link (test length sender) (Fact length sender))
-    → Link (if_full inbox test) ((length : ℕ) (sender : VmId) → inbox ≡ Full length sender → Fact length sender)
+    → Link (if_full inbox test) ((length : ℕ) (sender : VmId) → inbox ≡ Some (message length sender) → Fact length sender)
 unfolding if_full
 if_full_link {inbox} {test} {Fact} x =
     record {
       holds = λ e length sender q. (x length sender).holds (rw q at e);
       passes =
-          elim inbox as (λ b. ((length : ℕ) (sender : VmId) → b ≡ Full length sender → Fact length sender) → if_full b test ≡ true)
-          [ Empty ↦ λ c. refl | Full length sender ↦ λ c. (x length sender).passes (c length sender refl) ];
+          elim inbox as (λ b. ((length : ℕ) (sender : VmId) → b ≡ Some (message length sender) → Fact length sender) → if_full b test ≡ true)
+          [ None ↦ λ c. refl | Some message ↦ λ c. (x message.length message.sender).passes (c message.length message.sender refl) ];
     }
 
-pub is_empty_link : {inbox : Inbox} → Link (is_empty inbox) (inbox ≡ Empty)
+pub is_empty_link : {inbox : Option Message} → Link (is_empty inbox) (inbox ≡ None)
 unfolding is_empty
 is_empty_link {inbox} =
-    record { holds = elim inbox as (λ b. is_empty b ≡ true → b ≡ Empty) [ Empty ↦ λ e. refl | Full length sender ↦ λ e. absurd (false≢true e) ]; passes = ap is_empty }
+    record { holds = elim inbox as (λ b. is_empty b ≡ true → b ≡ None) [ None ↦ λ e. refl | Some message ↦ λ e. absurd (false≢true e) ]; passes = ap is_empty }
 
-pub if_owned_link : {owner : Owner} {test : VmId → Bool} {Fact : VmId → Type 0}
-    → ((g : VmId) → Link (test g) (Fact g)) → Link (if_owned owner test) ((g : VmId) → owner ≡ Guest g → Fact g)
+pub if_owned_link : {owner : Option VmId} {test : VmId → Bool} {Fact : VmId → Type 0}
+    → ((g : VmId) → Link (test g) (Fact g)) → Link (if_owned owner test) ((g : VmId) → owner ≡ Some g → Fact g)
 unfolding if_owned
 if_owned_link {owner} {test} {Fact} x =
     record {
       holds = λ e g q. (x g).holds (rw q at e);
       passes =
-          elim owner as (λ o. ((g : VmId) → o ≡ Guest g → Fact g) → if_owned o test ≡ true)
-          [ Nobody ↦ λ c. refl | Guest g ↦ λ c. (x g).passes (c g refl) ];
+          elim owner as (λ o. ((g : VmId) → o ≡ Some g → Fact g) → if_owned o test ≡ true)
+          [ None ↦ λ c. refl | Some g ↦ λ c. (x g).passes (c g refl) ];
     }
 
 -- A fact about each page of a mailbox or of a transaction.

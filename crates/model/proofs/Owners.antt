@@ -1,5 +1,6 @@
 -- Which pages have an owner never changes, by no act and by no run, of any machine: a refused act changes nothing, and any
 -- other is on a sound machine, where every page that gets a record has an owner already.
+use Rattle.std.specs.Prelude.{Some}
 use Prim.Native.Nat.{ℕ, zero, suc, ◌<◌}
 use mathlib.Core.Path.{◌≡◌, refl, sym, ap, ◌∙◌}
 use mathlib.Core.Bool.{Bool, true, false, cond}
@@ -13,7 +14,6 @@ use Rattle.model.specs.declared.Registers.{Registers}
 use Rattle.model.specs.declared.PageRecord.{PageRecord}
 use Rattle.model.specs.declared.Kind.{Kind}
 use Rattle.model.specs.declared.Deal.{Deal}
-use Rattle.model.specs.declared.Life.TheVariants.{Live}
 use Rattle.model.specs.declared.Transaction.{Transaction}
 use Rattle.model.specs.declared.Machine.{Machine}
 use Rattle.model.specs.Constants.{HANDLES, RETRIEVE}
@@ -36,8 +36,7 @@ use Rattle.model.specs.RunSteps.{stepped}
 use Rattle.model.proofs.Entries.{is_done_lem, done_sound}
 use Rattle.model.proofs.Sending.{passed, sent_at}
 use Rattle.model.proofs.Due.{at_held, page_row}
-use Rattle.model.proofs.Cases.{own_handle, OnHandle, CallCase, was_refused, did_run, did_hand_over, did_poll, did_send, did_send_pages, did_retrieve, did_relinquish, did_reclaim}
-use Rattle.model.proofs.Cases.{StepCase, did_move, did_store, did_call, did_fault, did_halt}
+use Rattle.model.proofs.Cases.{own_handle, OnHandle, CallCase, was_refused, did_run, did_hand_over, did_poll, did_send, did_send_pages, did_retrieve, did_relinquish, did_reclaim, StepCase, did_move, did_store, did_call, did_fault, did_halt}
 use Rattle.model.proofs.Calls.{call_case}
 use Rattle.model.proofs.Steps.{step_case}
 use Rattle.model.proofs.Acts.{effect_of, after_either, done_accepted, went_refused}
@@ -84,7 +83,7 @@ settled_keeps m h new t due e were =
     (refl, map_set_each owned (count_of t) (λ i. (page_at t i).0) (λ i. due) m.records _ (λ i b. e ∙ sym (were i b)))
 
 -- a page of a transaction is its sender's
-held_owned : (m : Machine) → Sound m → (h : Handle) (d : Deal) → h.0 < HANDLES → (transaction_at m.transactions h).life ≡ Live d
+held_owned : (m : Machine) → Sound m → (h : Handle) (d : Deal) → h.0 < HANDLES → (transaction_at m.transactions h).deal ≡ Some d
     → (i : ℕ) → i < count_of (transaction_at m.transactions h)
     → owned (record_at m.records (page_at (transaction_at m.transactions h) i)) ≡ true
 unfolding row is_owned

@@ -1,5 +1,6 @@
 -- Soundness is kept by what the calls do to pages: each deed is an instance of the law of `Settle.antt`, and so are the
 -- sendings.
+use Rattle.std.specs.Prelude.{None, Some}
 use Prim.Native.Nat.{ℕ, suc, ◌<◌}
 use mathlib.Core.Path.{◌≡◌, refl, sym, ap, ◌∙◌}
 use mathlib.Core.Bool.{Bool, true, false, not}
@@ -9,11 +10,9 @@ use Rattle.isa.specs.Tests.{◌and◌, ◌or◌}
 use Rattle.model.specs.declared.VmId.{VmId}
 use Rattle.model.specs.declared.PageId.{PageId}
 use Rattle.model.specs.declared.Handle.{Handle}
-use Rattle.model.specs.declared.Owner.TheVariants.{Nobody, Guest}
 use Rattle.model.specs.declared.PageRecord.{PageRecord}
 use Rattle.model.specs.declared.Kind.{Kind}
 use Rattle.model.specs.declared.Deal.{Deal}
-use Rattle.model.specs.declared.Life.TheVariants.{Free, Live}
 use Rattle.model.specs.declared.Transaction.{Transaction}
 use Rattle.model.specs.declared.Machine.{Machine}
 use Rattle.model.specs.Constants.{HANDLES, PLACES}
@@ -25,8 +24,7 @@ use Rattle.model.specs.Sound.{Sound}
 use Rattle.model.specs.Shaped.{Shaped}
 use Rattle.model.specs.Deeds.{settled, freed, marked, redealt, retrieved, relinquished, reclaimed}
 use Rattle.model.specs.Reply.{passes}
-use Rattle.model.specs.Sending.{lowest_free, sending_verdict}
-use Rattle.model.specs.Sending.{sent_page, sent_count, sent_deal, sent_transaction, sent}
+use Rattle.model.specs.Sending.{lowest_free, sending_verdict, sent_page, sent_count, sent_deal, sent_transaction, sent}
 use Rattle.isa.proofs.Tests.{not_both, cannot_pass, and_intro, and_false}
 use Rattle.model.proofs.Tests.{length_set_each}
 use Rattle.model.proofs.Same.{same_vm_true, eq_same_vm}
@@ -39,13 +37,13 @@ use Rattle.model.proofs.Settle.{Proper, proper_at, free_holds_none, holding_is_l
 
 -- What a place gets: its own deal with another mark, or nothing.
 
-live_deal : {d e : Deal} → Live d ≡ Live e → d ≡ e
+live_deal : {d e : Deal} → Some d ≡ Some e → d ≡ e
 live_deal q = cc
 
-free_not_live : {d : Deal} → Free ≡ Live d → ⊥
+free_not_live : {d : Deal} → None ≡ Some d → ⊥
 free_not_live q = let z : ◌≡◌ {A = ℕ} 0 1 = cc in omega arith
 
-module _ (m : Machine) (u : Transaction) (d : Deal) (mark : Bool) (live : u.life ≡ Live d) where
+module _ (m : Machine) (u : Transaction) (d : Deal) (mark : Bool) (live : u.deal ≡ Some d) where
   -- it has as many pages, the same ones
   same_count : count_of (redealt u (marked d mark)) ≡ count_of u
   unfolding redealt marked count_of count_in
@@ -95,8 +93,8 @@ module _ (m : Machine) (shaped : Shaped m) (sound : Sound m) (h : Handle) (b : h
 
   -- only what the place gets is left to say
   old_settles : (new : Transaction) (r : PageRecord) → Proper m new
-      → ((d : Deal) → new.life ≡ Live d → (p : PageId) → holds new p ≡ holds old p)
-      → r ≡ due_in new.life r.owner → (g : VmId) × (r.owner ≡ Guest g) × (g.0 < m.n)
+      → ((d : Deal) → new.deal ≡ Some d → (p : PageId) → holds new p ≡ holds old p)
+      → r ≡ due_in new.deal r.owner → (g : VmId) × (r.owner ≡ Some g) × (g.0 < m.n)
       → Settles m h new old r
   old_settles new r proper all_new is_due is_owned =
       record {
@@ -111,14 +109,14 @@ module _ (m : Machine) (shaped : Shaped m) (sound : Sound m) (h : Handle) (b : h
       }
 
   -- the pages of a handle that is freed are their owner's own
-  freed_keeps : (r : PageRecord) (g : VmId) → r ≡ free_row (Guest g) → g.0 < m.n
+  freed_keeps : (r : PageRecord) (g : VmId) → r ≡ free_row (Some g) → g.0 < m.n
       → Shaped (settled m h freed old r) × Sound (settled m h freed old r)
   unfolding due_in free_row
   freed_keeps r g own below =
       settled_keeps m shaped sound h freed old r
       (old_settles freed r (freed_proper m) (λ d q. absurd (free_not_live q)) (rw own) (g, rw own, below))
 
-  marked_keeps : (d : Deal) (mark : Bool) → old.life ≡ Live d → (donates d.kind ≡ true → mark ≡ false)
+  marked_keeps : (d : Deal) (mark : Bool) → old.deal ≡ Some d → (donates d.kind ≡ true → mark ≡ false)
       → Shaped (settled m h (redealt old (marked d mark)) old (row (marked d mark)))
       × Sound (settled m h (redealt old (marked d mark)) old (row (marked d mark)))
   unfolding due_in row redealt marked
@@ -131,7 +129,7 @@ module _ (m : Machine) (shaped : Shaped m) (sound : Sound m) (h : Handle) (b : h
       (d.sender, refl, (sound.parties_below h.0 d b live).0))
 
 pub retrieved_keeps : (m : Machine) → Shaped m → Sound m → (h : Handle) (d : Deal) → h.0 < HANDLES
-    → (transaction_at m.transactions h).life ≡ Live d → Shaped (retrieved m h d) × Sound (retrieved m h d)
+    → (transaction_at m.transactions h).deal ≡ Some d → Shaped (retrieved m h d) × Sound (retrieved m h d)
 unfolding retrieved
 retrieved_keeps m shaped sound h d b live = go (donates d.kind) refl
   where
@@ -140,12 +138,12 @@ retrieved_keeps m shaped sound h d b live = go (donates d.kind) refl
     go false q = rw q (marked_keeps m shaped sound h b d true live (λ e. absurd (not_both e q)))
 
 pub relinquished_keeps : (m : Machine) → Shaped m → Sound m → (h : Handle) (d : Deal) → h.0 < HANDLES
-    → (transaction_at m.transactions h).life ≡ Live d → Shaped (relinquished m h d) × Sound (relinquished m h d)
+    → (transaction_at m.transactions h).deal ≡ Some d → Shaped (relinquished m h d) × Sound (relinquished m h d)
 unfolding relinquished
 relinquished_keeps m shaped sound h d b live = marked_keeps m shaped sound h b d false live (λ e. refl)
 
 pub reclaimed_keeps : (m : Machine) → Shaped m → Sound m → (h : Handle) (d : Deal) → h.0 < HANDLES
-    → (transaction_at m.transactions h).life ≡ Live d → Shaped (reclaimed m h d) × Sound (reclaimed m h d)
+    → (transaction_at m.transactions h).deal ≡ Some d → Shaped (reclaimed m h d) × Sound (reclaimed m h d)
 unfolding reclaimed
 reclaimed_keeps m shaped sound h d b live =
     freed_keeps m shaped sound h b _ d.sender refl (sound.parties_below h.0 d b live).0
@@ -173,7 +171,7 @@ owner_alone g = and_intro (has_only g g ∙ eq_same_vm refl) refl
 row_not_owned : (d : Deal) (g : VmId) → (d.sender ≡ d.receiver → ⊥) → row d ≡ owned_row g → ⊥
 unfolding row free_row
 row_not_owned d g differ q =
-    let owners : Guest d.sender ≡ Guest g = ap (λ (r : PageRecord). r.owner) q in
+    let owners : Some d.sender ≡ Some g = ap (λ (r : PageRecord). r.owner) q in
     let same : d.sender ≡ g = cc in
     not_both
     (ap (λ (r : PageRecord). has d.sender r.access and r.exclusive) q ∙ rw same (owner_alone g))
@@ -182,7 +180,7 @@ row_not_owned d g differ q =
 mailbox_not_owned : (g k : VmId) → mailbox_row g ≡ owned_row k → ⊥
 unfolding mailbox_row free_row
 mailbox_not_owned g k q =
-    let owners : Nobody ≡ Guest k = ap (λ (r : PageRecord). r.owner) q in
+    let owners : None ≡ Some k = ap (λ (r : PageRecord). r.owner) q in
     let z : ◌≡◌ {A = ℕ} 0 1 = cc in
     omega arith
 
@@ -239,7 +237,7 @@ sent_keeps kind s shaped sound e =
     let h = lowest_free m.transactions in
     let t = sent_transaction kind s in
     let below : h.0 < HANDLES = (passed kind s e).is_handle in
-    let free : (transaction_at m.transactions h).life ≡ Free = is_free_lem _ (free_at_lowest m.transactions below) in
+    let free : (transaction_at m.transactions h).deal ≡ None = is_free_lem _ (free_at_lowest m.transactions below) in
     settled_keeps m shaped sound h t t (row (sent_deal kind s))
     (record {
       is_handle = below;

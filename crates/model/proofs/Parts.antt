@@ -1,6 +1,9 @@
 -- A sound machine of the code's shape stays one when its registers, its inboxes, the current guest or the mode change.
+use Rattle.model.specs.State.{message, own_registers, vm, primary, is_primary, registers_at, written, inbox_at, with_inbox, changed, with_registers, with_inboxes, with_current, with_mode}
+use Rattle.std.specs.Prelude.{Option, None, Some}
+use Rattle.model.specs.declared.Message.{Message}
 use Prim.Native.Nat.{ℕ, ◌≤◌, ◌<◌}
-use mathlib.Core.Path.{◌≡◌, refl, sym, ◌∙◌}
+use mathlib.Core.Path.{◌≡◌, refl, ap, sym, ◌∙◌}
 use mathlib.Core.Bool.{Bool, true, false, cond, false≢true}
 use mathlib.Core.List.{List}
 use native.Mathlib.Decide.{ℕ_discrete}
@@ -9,13 +12,9 @@ use lib.ListN.{length, set, length-set}
 use Rattle.model.specs.declared.VmId.{VmId}
 use Rattle.model.specs.declared.Handle.{Handle}
 use Rattle.model.specs.declared.Registers.{Registers}
-use Rattle.model.specs.declared.Inbox.{Inbox}
-use Rattle.model.specs.declared.Inbox.TheVariants.{Empty, Full}
-use Rattle.model.specs.declared.InboxSlot.{InboxSlot}
 use Rattle.model.specs.declared.Mode.{Mode}
 use Rattle.model.specs.declared.Machine.{Machine}
 use Rattle.model.specs.Constants.{GUESTS, PAGE, SEND, ERROR, SUCCESS}
-use Rattle.model.specs.State.{own_registers, vm, primary, is_primary, registers_at, written, inbox_at, with_inbox, changed, with_registers, with_inboxes, with_current, with_mode}
 use Rattle.model.specs.Shaped.{Shaped}
 use Rattle.model.specs.Sound.{EachMessage, Sound}
 use Rattle.model.specs.Reply.{passes, with_error, succeeded, told, woken, handed_over}
@@ -39,15 +38,15 @@ record Files (m : Machine) (files : List Registers) : Type 0 where
   rest_stay : (g : ℕ) → m.n ≤ g → registers_at files (vm g) ≡ registers_at m.registers (vm g)
 
 -- a message for guest g is in range, and from another guest
-record Message (m : Machine) (g : VmId) (length : ℕ) (sender : VmId) : Type 0 where
+record ProperMessage (m : Machine) (g : VmId) (length : ℕ) (sender : VmId) : Type 0 where
   in_range : (1 ≤ length) × (length ≤ PAGE)
   from_guest : sender.0 < m.n
   from_other : sender ≡ g → ⊥
 
 -- inboxes likewise
-record Inboxes (m : Machine) (slots : List InboxSlot) : Type 0 where
+record Inboxes (m : Machine) (slots : List (Option Message)) : Type 0 where
   eight : length slots ≡ GUESTS
-  messages : EachMessage m.n slots (Message m)
+  messages : EachMessage m.n slots (ProperMessage m)
   rest_stay : (g : ℕ) → m.n ≤ g → inbox_at slots (vm g) ≡ inbox_at m.inboxes (vm g)
 
 same_files : (m : Machine) → Good m → Files m m.registers
@@ -68,7 +67,7 @@ same_inboxes m (shaped, sound) =
 
 -- every other clause reads none of the new parts
 parts_keep : (m : Machine) → Good m
-    → {files : List Registers} → Files m files → {slots : List InboxSlot} → Inboxes m slots
+    → {files : List Registers} → Files m files → {slots : List (Option Message)} → Inboxes m slots
     → (current : VmId) → current.0 < m.n → (mode : Mode)
     → Good (changed m files slots m.records m.transactions current mode)
 parts_keep m (shaped, sound) f s current below mode = (
@@ -199,8 +198,8 @@ notified_keeps m good receiver =
 -- Inboxes.
 
 -- one guest's inbox replaced: every message is as it must be, if one that is there now is
-inbox_keeps : (m : Machine) → Good m → (g : VmId) (inbox : Inbox) → g.0 < m.n
-    → ((length : ℕ) (sender : VmId) → inbox ≡ Full length sender → Message m g length sender)
+inbox_keeps : (m : Machine) → Good m → (g : VmId) (inbox : Option Message) → g.0 < m.n
+    → ((length : ℕ) (sender : VmId) → inbox ≡ Some (message length sender) → ProperMessage m g length sender)
     → Good (with_inboxes m (with_inbox m.inboxes g inbox))
 inbox_keeps m (shaped, sound) g inbox below new =
     parts_keep
@@ -216,7 +215,7 @@ inbox_keeps m (shaped, sound) g inbox below new =
     fits : g.0 < length m.inboxes
     fits = omega (arith, sound.counts_in_range.eight_guests, shaped.eight_inboxes)
 
-    messages : EachMessage m.n (with_inbox m.inboxes g inbox) (Message m)
+    messages : EachMessage m.n (with_inbox m.inboxes g inbox) (ProperMessage m)
     messages k length sender low here =
         elim (ℕ_discrete k g.0) [
           | yes e ↦ rw e (new length sender (sym (inbox_same m.inboxes g inbox fits) ∙ (rw e at here)))
@@ -225,8 +224,8 @@ inbox_keeps m (shaped, sound) g inbox below new =
               (sym (inbox_other m.inboxes g (vm k) inbox e) ∙ here)
         ]
 
-pub emptied_keeps : (m : Machine) → Good m → (g : VmId) → g.0 < m.n → Good (with_inboxes m (with_inbox m.inboxes g Empty))
-emptied_keeps m good g below = inbox_keeps m good g Empty below (λ length sender e. absurd (false≢true cc))
+pub emptied_keeps : (m : Machine) → Good m → (g : VmId) → g.0 < m.n → Good (with_inboxes m (with_inbox m.inboxes g None))
+emptied_keeps m good g below = inbox_keeps m good g None below (λ length sender e. absurd (false≢true cc))
 
 pub polled_keeps : (m : Machine) → Good m → Good (polled m)
 unfolding polled noted
@@ -238,11 +237,12 @@ polled_keeps m good =
 
 pub filled_keeps : (m : Machine) → Good m → (g : VmId) (length : ℕ) (sender : VmId) → g.0 < m.n
     → (1 ≤ length) × (length ≤ PAGE) → sender.0 < m.n → (sender ≡ g → ⊥)
-    → Good (with_inboxes m (with_inbox m.inboxes g (Full length sender)))
+    → Good (with_inboxes m (with_inbox m.inboxes g (Some (message length sender))))
 filled_keeps m good g length sender below range low other =
-    inbox_keeps m good g (Full length sender) below (λ len from e.
-    let same_length : length ≡ len = cc in
-    let same-sender : sender ≡ from = cc in
+    inbox_keeps m good g (Some (message length sender)) below (λ len from e.
+    let same : ◌≡◌ {A = Message} (message length sender) (message len from) = cc in
+    let same_length : length ≡ len = ap (λ (w : Message). w.length) same in
+    let same-sender : sender ≡ from = ap (λ (w : Message). w.sender) same in
     rw (← same_length, ← same-sender) (record { in_range = range; from_guest = low; from_other = other }))
 
 pub delivered_keeps : (m : Machine) → Good m → send_verdict m ≡ passes → Good (delivered m)

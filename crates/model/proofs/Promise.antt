@@ -1,4 +1,5 @@
 -- The reclaim promise: the frame law over a list of acts, with the sending in front and the reclaim behind.
+use Rattle.std.specs.Prelude.{Some}
 use Prim.Native.Nat.{ℕ, suc, ◌<◌}
 use mathlib.Core.Path.{◌≡◌, refl, sym, ap, ◌∙◌}
 use mathlib.Core.Bool.{Bool, true, false, false≢true}
@@ -13,7 +14,6 @@ use Rattle.model.specs.declared.Kind.{Kind}
 use Rattle.model.specs.declared.Kind.TheVariants.{Donate, Lend, Share}
 use Rattle.model.specs.declared.PageRecord.{PageRecord}
 use Rattle.model.specs.declared.Deal.{Deal}
-use Rattle.model.specs.declared.Life.TheVariants.{Live}
 use Rattle.model.specs.declared.Transaction.{Transaction}
 use Rattle.model.specs.Constants.{HANDLES}
 use Rattle.model.specs.State.{State, record_at, transaction_at, page_at, count_in, count_of}
@@ -64,7 +64,7 @@ module _ (h : Handle) (is_handle : h.0 < HANDLES) (pages : List PageId) where
       let later = through rest (after a s) (act_keeps_fit a s fit) (marked d now.mark) keeps now.slot (λ q. not_yet (suc q)) in
       let at : (x : ℕ) → holds (dealt d pages) (page_of x) ≡ true → holds (transaction_at s.machine.transactions h) (page_of x) ≡ true =
       λ x held. rw slot held in
-      let live : (transaction_at s.machine.transactions h).life ≡ Live d = rw slot in
+      let live : (transaction_at s.machine.transactions h).deal ≡ Some d = rw slot in
       record {
         mark = later.mark;
         fit = later.fit;
@@ -107,7 +107,7 @@ start a s k i j h ps e (reclaimed_it l d f c leaves memory) = absurd (false≢tr
 record Finish (b : Act) (u : State) (i : VmId) (h : Handle) : Type 0 where
   deal : Deal
   is_handle : h.0 < HANDLES
-  live : (transaction_at u.machine.transactions h).life ≡ Live deal
+  live : (transaction_at u.machine.transactions h).deal ≡ Some deal
   unmarked : deal.retrieved ≡ false
   records : (after b u).machine.records ≡ (reclaimed u.machine h deal).records
   memory : (after b u).memory ≡ u.memory
@@ -161,7 +161,7 @@ module _ (s : State) (a : Act) (acts : List Act) (b : Act) (k : Kind) (i j : VmI
       through h first.facts.is_handle pages acts (after a s) (act_keeps_fit a s fit) given (not_donated story.shared_or_lent)
       (ap (λ (t : List Transaction). transaction_at t h) first.transactions
       ∙ transaction_same s.machine.transactions h first.new (omega (arith, fit.shaped.sixteen_transactions, first.facts.is_handle))
-      ∙ (λ z. record { life = first.facts.is_deal z; pages = pages }))
+      ∙ (λ z. record { deal = first.facts.is_deal z; pages = pages }))
       story.not_yet
 
   abbrev last : State
@@ -173,8 +173,8 @@ module _ (s : State) (a : Act) (acts : List Act) (b : Act) (k : Kind) (i j : VmI
   -- the deal that ends is the one that was made, with a clear mark
   same_deal : finally.deal ≡ marked given middle.mark
   same_deal =
-      let lives : Live finally.deal ≡ Live (marked given middle.mark) =
-      sym finally.live ∙ ap (λ (t : Transaction). t.life) middle.slot in
+      let lives : Some finally.deal ≡ Some (marked given middle.mark) =
+      sym finally.live ∙ ap (λ (t : Transaction). t.deal) middle.slot in
       cc
 
   unmarked : middle.mark ≡ false

@@ -1,5 +1,6 @@
 -- The variants of the promise are false: each fails of the share's tale. Page 9 has another record just after the sending;
 -- its word at 9221 was 2, became 11 by the sender's store, which came first, and 22 by the receiver's.
+use Rattle.std.specs.Prelude.{None}
 use Prim.Native.Nat.{ℕ}
 use mathlib.Core.Path.{◌≡◌, refl, sym, ap, ◌∙◌}
 use mathlib.Core.Bool.{Bool, true≢false}
@@ -11,7 +12,6 @@ use Rattle.isa.specs.Tests.{◌or◌}
 use Rattle.model.specs.declared.VmId.{VmId}
 use Rattle.model.specs.declared.PageId.{PageId}
 use Rattle.model.specs.declared.Handle.{Handle}
-use Rattle.model.specs.declared.Owner.TheVariants.{Nobody}
 use Rattle.model.specs.declared.PageRecord.{PageRecord}
 use Rattle.model.specs.declared.Kind.{Kind}
 use Rattle.model.specs.State.{State, vm, page, same_page}
@@ -29,7 +29,7 @@ told = promise_applies.to_a_share
 -- what is seen of page 9 and of the word at 9221
 
 exclusive9 : Sight → Bool
-exclusive9 seen = (get_or seen.records 0 (free_row Nobody)).exclusive
+exclusive9 seen = (get_or seen.records 0 (free_row None)).exclusive
 
 word9221 : Sight → ℕ
 word9221 seen = get_or seen.words 1 0

@@ -1,12 +1,11 @@
 -- The tests for equality are equality: of guests, pages, sets of guests, owners and page records.
+use Rattle.std.specs.Prelude.{Option, None, Some}
 use mathlib.Core.Path.{◌≡◌, refl, ap}
 use mathlib.Core.Bool.{true, false≢true}
 use borrow.Author.Tests.{eqb-true, eq-eqb}
 use Rattle.model.specs.declared.VmId.{VmId}
 use Rattle.model.specs.declared.PageId.{PageId}
 use Rattle.model.specs.declared.VmSet.{VmSet}
-use Rattle.model.specs.declared.Owner.{Owner}
-use Rattle.model.specs.declared.Owner.TheVariants.{Nobody, Guest}
 use Rattle.model.specs.declared.PageRecord.{PageRecord}
 use Rattle.model.specs.State.{vm, page, same_vm, same_page}
 use Rattle.model.specs.VmSet.{same_set}
@@ -38,19 +37,19 @@ pub eq_same_set : {a b : VmSet} → a ≡ b → same_set a b ≡ true
 unfolding same_set
 eq_same_set {a} {b} p = eq-eqb a.0 b.0 (λ i. (p i).0)
 
-pub same_owner_true : (a b : Owner) → same_owner a b ≡ true → a ≡ b
+pub same_owner_true : (a b : Option VmId) → same_owner a b ≡ true → a ≡ b
 unfolding same_owner
-same_owner_true Nobody Nobody e = refl
-same_owner_true Nobody (Guest k) e = absurd (false≢true e)
-same_owner_true (Guest g) Nobody e = absurd (false≢true e)
-same_owner_true (Guest g) (Guest k) e = ap Guest (same_vm_true g k e)
+same_owner_true None None e = refl
+same_owner_true None (Some k) e = absurd (false≢true e)
+same_owner_true (Some g) None e = absurd (false≢true e)
+same_owner_true (Some g) (Some k) e = ap Some (same_vm_true g k e)
 
-same_owner_self : (a : Owner) → same_owner a a ≡ true
+same_owner_self : (a : Option VmId) → same_owner a a ≡ true
 unfolding same_owner
-same_owner_self Nobody = refl
-same_owner_self (Guest g) = eq_same_vm refl
+same_owner_self None = refl
+same_owner_self (Some g) = eq_same_vm refl
 
-pub eq_same_owner : {a b : Owner} → a ≡ b → same_owner a b ≡ true
+pub eq_same_owner : {a b : Option VmId} → a ≡ b → same_owner a b ≡ true
 eq_same_owner {a} {b} p = rw p (same_owner_self b)
 
 pub same_record_true : (a b : PageRecord) → same_record a b ≡ true → a ≡ b

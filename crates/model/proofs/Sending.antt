@@ -1,4 +1,6 @@
 -- What is known of a sending whose tests pass: of its descriptor, of the handle that it gets, and of its transaction.
+use Rattle.std.specs.Prelude.{Option, None, Some}
+use Rattle.model.specs.declared.Deal.{Deal}
 use Prim.Native.Nat.{ℕ, ◌%◌, ◌≤◌, ◌<◌}
 use mathlib.Core.Path.{◌≡◌, refl, ◌∙◌}
 use mathlib.Core.Bool.{true, false, false≢true}
@@ -7,8 +9,6 @@ use native.Mathlib.Omega.{arith}
 use lib.ListN.{replicate, get_or-replicate}
 use borrow.Author.Tests.{ltb-true, leb-true, eqb-true, not-true}
 use Rattle.model.specs.declared.Kind.{Kind}
-use Rattle.model.specs.declared.Life.{Life}
-use Rattle.model.specs.declared.Life.TheVariants.{Free, Live}
 use Rattle.model.specs.declared.Transaction.{Transaction}
 use Rattle.model.specs.Constants.{PAGE, HANDLES, PLACES}
 use Rattle.model.specs.Tests.{ascending}
@@ -56,20 +56,20 @@ passed kind s e =
 
 -- The lowest free handle.
 
-pub is_free_lem : (l : Life) → is_free l ≡ true → l ≡ Free
+pub is_free_lem : (l : Option Deal) → is_free l ≡ true → l ≡ None
 unfolding is_free
-is_free_lem Free e = refl
-is_free_lem (Live d) e = absurd (false≢true e)
+is_free_lem None e = refl
+is_free_lem (Some d) e = absurd (false≢true e)
 
 pub free_at_lowest : (transactions : List Transaction) → (lowest_free transactions).0 < HANDLES
-    → is_free (transaction_at transactions (lowest_free transactions)).life ≡ true
+    → is_free (transaction_at transactions (lowest_free transactions)).deal ≡ true
 unfolding lowest_free
-free_at_lowest transactions h = first_passes _ (λ k. is_free (transaction_at transactions (handle k)).life) h
+free_at_lowest transactions h = first_passes _ (λ k. is_free (transaction_at transactions (handle k)).deal) h
 
 pub live_below_lowest : (transactions : List Transaction) (k : ℕ) → k < (lowest_free transactions).0
-    → is_free (transaction_at transactions (handle k)).life ≡ false
+    → is_free (transaction_at transactions (handle k)).deal ≡ false
 unfolding lowest_free
-live_below_lowest transactions k h = before_first _ (λ j. is_free (transaction_at transactions (handle j)).life) k h
+live_below_lowest transactions k h = before_first _ (λ j. is_free (transaction_at transactions (handle j)).deal) k h
 
 -- The page slots: those sent, then blank ones.
 

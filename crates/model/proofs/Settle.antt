@@ -1,6 +1,7 @@
 -- The one law about a handle's place that is settled anew: it gets another transaction, the pages get the record that is due
 -- to them then, and the machine stays sound. A record left as it was, a page slot not cleared, a mark on a donation: each
 -- leaves a condition of the law without a proof.
+use Rattle.std.specs.Prelude.{Option, None, Some}
 use Prim.Native.Nat.{ℕ, suc, ◌≤◌, ◌<◌}
 use mathlib.Core.Path.{◌≡◌, refl, sym, ap, ◌∙◌}
 use mathlib.Core.Bool.{Bool, true, false}
@@ -11,12 +12,8 @@ use lib.ListN.{length, set, length-set}
 use Rattle.model.specs.declared.VmId.{VmId}
 use Rattle.model.specs.declared.PageId.{PageId}
 use Rattle.model.specs.declared.Handle.{Handle}
-use Rattle.model.specs.declared.Owner.{Owner}
-use Rattle.model.specs.declared.Owner.TheVariants.{Guest}
 use Rattle.model.specs.declared.PageRecord.{PageRecord}
 use Rattle.model.specs.declared.Deal.{Deal}
-use Rattle.model.specs.declared.Life.{Life}
-use Rattle.model.specs.declared.Life.TheVariants.{Free, Live}
 use Rattle.model.specs.declared.Transaction.{Transaction}
 use Rattle.model.specs.declared.Machine.{Machine}
 use Rattle.model.specs.Constants.{HANDLES, PLACES}
@@ -43,7 +40,7 @@ pub record ProperDeal (n : ℕ) (d : Deal) : Type 0 where
 
 pub record Proper (m : Machine) (u : Transaction) : Type 0 where
   pub eight_places : length u.pages ≡ PLACES
-  pub deal : (d : Deal) → u.life ≡ Live d → ProperDeal m.n d
+  pub deal : (d : Deal) → u.deal ≡ Some d → ProperDeal m.n d
   pub ascend : (i : ℕ) → suc i < count_of u → (page_at u i).0 < (page_at u (suc i)).0
   pub below : (i : ℕ) → i < count_of u → (page_at u i).0 < m.m
   pub no_mailbox : (i : ℕ) → i < count_of u → is_mailbox m.n m.mailboxes (page_at u i) ≡ false
@@ -68,17 +65,17 @@ proper_at m shaped sound k b =
     }
 
 -- a free one holds no page
-pub free_holds_none : (u : Transaction) (p : PageId) → u.life ≡ Free → holds u p ≡ false
+pub free_holds_none : (u : Transaction) (p : PageId) → u.deal ≡ None → holds u p ≡ false
 unfolding holds count_of count_in some
 free_holds_none u p free = rw free
 
 -- so one that holds a page is live
-pub holding_is_live : (u : Transaction) (p : PageId) → holds u p ≡ true → (d : Deal) × (u.life ≡ Live d)
-holding_is_live u p e = go u.life refl
+pub holding_is_live : (u : Transaction) (p : PageId) → holds u p ≡ true → (d : Deal) × (u.deal ≡ Some d)
+holding_is_live u p e = go u.deal refl
   where
-    go : (l : Life) → u.life ≡ l → (d : Deal) × (u.life ≡ Live d)
-    go Free q = absurd (not_both e (free_holds_none u p q))
-    go (Live d) q = (d, q)
+    go : (l : Option Deal) → u.deal ≡ l → (d : Deal) × (u.deal ≡ Some d)
+    go None q = absurd (not_both e (free_holds_none u p q))
+    go (Some d) q = (d, q)
 
 -- Records after those of t's pages were set.
 
@@ -113,9 +110,9 @@ pub record Settles (m : Machine) (h : Handle) (new t : Transaction) (r : PageRec
       → holds t p ≡ true → k ≡ h.0
   -- t has all the pages that the place held, and the place holds all of t's, unless it is free now
   pub all_old : (p : PageId) → holds (transaction_at m.transactions h) p ≡ true → holds t p ≡ true
-  pub all_new : (d : Deal) → new.life ≡ Live d → (p : PageId) → holds new p ≡ holds t p
-  pub is_due : r ≡ due_in new.life r.owner
-  pub is_owned : (g : VmId) × (r.owner ≡ Guest g) × (g.0 < m.n)
+  pub all_new : (d : Deal) → new.deal ≡ Some d → (p : PageId) → holds new p ≡ holds t p
+  pub is_due : r ≡ due_in new.deal r.owner
+  pub is_owned : (g : VmId) × (r.owner ≡ Some g) × (g.0 < m.n)
 
 module _ (m : Machine) (shaped : Shaped m) (sound : Sound m) (h : Handle) (new t : Transaction) (r : PageRecord)
     (s : Settles m h new t r) where
@@ -177,7 +174,7 @@ module _ (m : Machine) (shaped : Shaped m) (sound : Sound m) (h : Handle) (new t
         let held = passes_at (omega (arith, q, s.is_handle)) in
         not_both (rw q at held) not_in_old
 
-    due_stays : (owner : Owner) → due m.n m.mailboxes placed owner p ≡ due m.n m.mailboxes m.transactions owner p
+    due_stays : (owner : Option VmId) → due m.n m.mailboxes placed owner p ≡ due m.n m.mailboxes m.transactions owner p
     unfolding due
     due_stays owner = rw (holder_stays, elsewhere (holder m.transactions p) holder_elsewhere)
 
@@ -206,16 +203,16 @@ module _ (m : Machine) (shaped : Shaped m) (sound : Sound m) (h : Handle) (new t
 
     settled_due : due m.n m.mailboxes placed r.owner p ≡ r
     unfolding due_in
-    settled_due = go new.life refl
+    settled_due = go new.deal refl
       where
-        go : (l : Life) → new.life ≡ l → due m.n m.mailboxes placed r.owner p ≡ r
-        go (Live d) q =
+        go : (l : Option Deal) → new.deal ≡ l → due m.n m.mailboxes placed r.owner p ≡ r
+        go (Some d) q =
             due_held m.n m.mailboxes placed r.owner p h d once_placed s.is_handle
             (rw at_handle q)
             (rw (at_handle, s.all_new d q p) e)
             settled_no_mailbox
             ∙ sym (rw q at s.is_due)
-        go Free q =
+        go None q =
             due_free m.n m.mailboxes placed r.owner p
             (length-set m.transactions h.0 new ∙ shaped.sixteen_transactions)
             (λ k b. cannot_pass (λ x. not_both (rw (settled_here k p b x e, at_handle) at x) (free_holds_none new p q)))
@@ -237,7 +234,7 @@ module _ (m : Machine) (shaped : Shaped m) (sound : Sound m) (h : Handle) (new t
     where
       go : (x : Bool) → holds t (page p) ≡ x → g.0 < m.n
       go true q =
-          let now : r.owner ≡ Guest g = rw (settled_record (page p) q) at e in
+          let now : r.owner ≡ Some g = rw (settled_record (page p) q) at e in
           let same : s.is_owned.0 ≡ g = cc s.is_owned.1 in
           rw (← same) s.is_owned.2
       go false q = sound.owners_below p g b (rw (recorded_other m.records t r (page p) q) at e)

@@ -1,23 +1,17 @@
 -- Soundness as a test is soundness as a record of facts: the clauses that are more than a line, then the whole, with a
 -- link for each clause.
+use Rattle.std.specs.Prelude.{Option}
+use Rattle.model.specs.declared.Message.{Message}
 use Prim.Native.Nat.{ℕ}
 use mathlib.Core.Path.{◌≡◌}
 use mathlib.Core.Bool.{true}
 use mathlib.Core.List.{List}
 use Rattle.model.specs.declared.Registers.{Registers}
 use Rattle.model.specs.declared.Mailbox.{Mailbox}
-use Rattle.model.specs.declared.Inbox.{Inbox}
 use Rattle.model.specs.declared.Transaction.{Transaction}
 use Rattle.model.specs.declared.Machine.{Machine}
-use Rattle.model.specs.Sound.{each_deal, each_page, each_message, counts_in_range, CountsInRange, page_counts_in_range, lengths_in_range}
-use Rattle.model.specs.Sound.{apart, mailboxes_differ, MailboxesDiffer, mailboxes_below, owners_below, senders_below, no_own_sender}
-use Rattle.model.specs.Sound.{parties_differ, parties_below, pages_ascend, pages_below, pages_no_mailbox}
-use Rattle.model.specs.Sound.{no_donation_retrieved, no_page_twice, NoPageTwice, records_due}
-use Rattle.model.specs.Sound.{blank_guest, BlankGuest, guests_blank, pages_blank, places_blank, sound, Sound}
-use Rattle.model.proofs.Links.{Link, said, ltb_link, leb_link, eqb_link, same_vm_link, same_page_link, same_record_link}
-use Rattle.model.proofs.Links.{fails_link, never_link, not_link, not_and_link, ◌both◌, from_link, ◌also◌, ◌make◌}
-use Rattle.model.proofs.Links.{every_link, every_of_link, every_of_two_link, ascending_link}
-use Rattle.model.proofs.Links.{if_live_link, if_full_link, is_empty_link, if_owned_link, keeps_link, holds_link, at_most_one, none_earlier}
+use Rattle.model.specs.Sound.{each_deal, each_page, each_message, counts_in_range, CountsInRange, page_counts_in_range, lengths_in_range, apart, mailboxes_differ, MailboxesDiffer, mailboxes_below, owners_below, senders_below, no_own_sender, parties_differ, parties_below, pages_ascend, pages_below, pages_no_mailbox, no_donation_retrieved, no_page_twice, NoPageTwice, records_due, blank_guest, BlankGuest, guests_blank, pages_blank, places_blank, sound, Sound}
+use Rattle.model.proofs.Links.{Link, said, ltb_link, leb_link, eqb_link, same_vm_link, same_page_link, same_record_link, fails_link, never_link, not_link, not_and_link, ◌both◌, from_link, ◌also◌, ◌make◌, every_link, every_of_link, every_of_two_link, ascending_link, if_live_link, if_full_link, is_empty_link, if_owned_link, keeps_link, holds_link, at_most_one, none_earlier}
 
 pub counts_in_range_link : (n m : ℕ) → Link (counts_in_range n m) (CountsInRange n m)
 unfolding counts_in_range
@@ -41,7 +35,7 @@ unfolding no_page_twice
 no_page_twice_link transactions =
     said (every_link (λ h. every_link (λ k. holds_link _ (every_link (λ i. never_link))))) at_most_one none_earlier
 
-blank_guest_link : (file : Registers) (box : Mailbox) (inbox : Inbox) → Link (blank_guest file box inbox) (BlankGuest file box inbox)
+blank_guest_link : (file : Registers) (box : Mailbox) (inbox : Option Message) → Link (blank_guest file box inbox) (BlankGuest file box inbox)
 unfolding blank_guest
 blank_guest_link file box inbox =
     (λ c. c.zero_registers, every_link (λ i. eqb_link))

@@ -1,6 +1,8 @@
 -- What the parts of the machine hold after a change: at the place that was changed, and at another.
+use Rattle.std.specs.Prelude.{Option}
+use Rattle.model.specs.declared.Message.{Message}
 use Prim.Native.Nat.{ℕ, ◌<◌}
-use mathlib.Core.Path.{◌≡◌, ap}
+use mathlib.Core.Path.{◌≡◌}
 use mathlib.Core.List.{List}
 use native.Mathlib.Omega.{arith}
 use lib.ListN.{length, set, length-set}
@@ -10,8 +12,6 @@ use Rattle.model.specs.declared.PageId.{PageId}
 use Rattle.model.specs.declared.Handle.{Handle}
 use Rattle.model.specs.declared.Registers.{Registers}
 use Rattle.model.specs.declared.Mailbox.{Mailbox}
-use Rattle.model.specs.declared.Inbox.{Inbox}
-use Rattle.model.specs.declared.InboxSlot.{InboxSlot}
 use Rattle.model.specs.declared.PageRecord.{PageRecord}
 use Rattle.model.specs.declared.Transaction.{Transaction}
 use Rattle.model.specs.declared.Machine.{Machine}
@@ -80,13 +80,13 @@ written_beside {files} {g} i j v c b =
 
 -- Inboxes.
 
-pub inbox_same : (slots : List InboxSlot) (g : VmId) (inbox : Inbox) → g.0 < length slots → inbox_at (with_inbox slots g inbox) g ≡ inbox
+pub inbox_same : (slots : List (Option Message)) (g : VmId) (inbox : Option Message) → g.0 < length slots → inbox_at (with_inbox slots g inbox) g ≡ inbox
 unfolding inbox_at
-inbox_same slots g inbox h = ap (λ (slot : InboxSlot). slot.inbox) (get_or-set_same slots g.0 _ _ h)
+inbox_same slots g inbox h = get_or-set_same slots g.0 _ _ h
 
-pub inbox_other : (slots : List InboxSlot) (g k : VmId) (inbox : Inbox) → (k.0 ≡ g.0 → ⊥) → inbox_at (with_inbox slots g inbox) k ≡ inbox_at slots k
+pub inbox_other : (slots : List (Option Message)) (g k : VmId) (inbox : Option Message) → (k.0 ≡ g.0 → ⊥) → inbox_at (with_inbox slots g inbox) k ≡ inbox_at slots k
 unfolding inbox_at
-inbox_other slots g k inbox h = ap (λ (slot : InboxSlot). slot.inbox) (get_or-set_other slots g.0 k.0 _ _ h)
+inbox_other slots g k inbox h = get_or-set_other slots g.0 k.0 _ _ h
 
 -- Transactions.
 

@@ -1,10 +1,10 @@
 -- The laws of a row, and the table's rows from them. Whoever reasons about rows uses the laws, not the definition.
+use Rattle.std.specs.Prelude.{Some}
 use Prim.Native.Nat.{ℕ}
 use mathlib.Core.Path.{◌≡◌, refl, ◌∙◌}
 use mathlib.Core.Bool.{Bool, true, false, not}
 use Rattle.isa.specs.Tests.{◌and◌, ◌or◌}
 use Rattle.model.specs.declared.VmId.{VmId}
-use Rattle.model.specs.declared.Owner.TheVariants.{Guest}
 use Rattle.model.specs.declared.Kind.{Kind}
 use Rattle.model.specs.declared.Kind.TheVariants.{Donate, Lend, Share}
 use Rattle.model.specs.declared.Deal.{Deal}
@@ -17,7 +17,7 @@ use Rattle.model.proofs.Members.{has_none, has_only, has_with}
 
 -- A row. Kind by kind, so that a wrong one is refused at its own line.
 
-pub row_owner : (d : Deal) → (row d).owner ≡ Guest d.sender
+pub row_owner : (d : Deal) → (row d).owner ≡ Some d.sender
 unfolding row
 row_owner d = refl
 

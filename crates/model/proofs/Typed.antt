@@ -22,7 +22,8 @@ use Rattle.model.specs.Shaped.{Shaped}
 use Rattle.model.specs.contracts.PageId as of-page
 use Rattle.model.specs.contracts.Registers as of-registers
 use Rattle.model.specs.contracts.Mailbox as of-mailbox
-use Rattle.model.specs.contracts.InboxSlot as of-inbox
+use Rattle.std.specs.contracts.option.Option as of-option
+use Rattle.model.specs.contracts.Message as of-message
 use Rattle.model.specs.contracts.PageRecord as of-record
 use Rattle.model.specs.contracts.Transaction as of-transaction
 use Rattle.model.specs.contracts.Machine as of-machine
@@ -71,7 +72,7 @@ typed_shaped m (_, (_, (_, (_, (_, (files, (boxes, (slots, (records, (transactio
       eight_r (registers_at m.registers (vm g))
       (typed_at of-registers.the_row GUESTS m.registers (_, files) g low _);
   eight_mailboxes = typed_length of-mailbox.the_row GUESTS m.mailboxes (_, boxes);
-  eight_inboxes = typed_length of-inbox.the_row GUESTS m.inboxes (_, slots);
+  eight_inboxes = typed_length (of-option.the_row of-message.the_row) GUESTS m.inboxes (_, slots);
   sixty_four_records = typed_length of-record.the_row PAGES m.records (_, records);
   sixteen_transactions = typed_length of-transaction.the_row HANDLES m.transactions (_, transactions);
   eight_places = λ h low.

@@ -1,4 +1,5 @@
 -- The words on the pages of a transaction: who may store there, and what an act does to them.
+use Rattle.std.specs.Prelude.{Some}
 use Prim.Native.Nat.{ℕ, ◌<◌}
 use mathlib.Core.Path.{◌≡◌, refl, sym, ap, ◌∙◌}
 use mathlib.Core.Bool.{Bool, true, false, cond, false≢true}
@@ -13,7 +14,6 @@ use Rattle.model.specs.declared.PageId.{PageId}
 use Rattle.model.specs.declared.Handle.{Handle}
 use Rattle.model.specs.declared.PageRecord.{PageRecord}
 use Rattle.model.specs.declared.Deal.{Deal}
-use Rattle.model.specs.declared.Life.TheVariants.{Live}
 use Rattle.model.specs.declared.Access.{Access}
 use Rattle.model.specs.declared.Access.TheVariants.{Allowed}
 use Rattle.model.specs.declared.Machine.{Machine}
@@ -67,7 +67,7 @@ accessible d g e =
 -- Acts.
 
 module _ (a : Act) (s : State) (fit : Fit s) (h : Handle) (is_handle : h.0 < HANDLES)
-    (d : Deal) (live : (transaction_at s.machine.transactions h).life ≡ Live d)
+    (d : Deal) (live : (transaction_at s.machine.transactions h).deal ≡ Some d)
     (x : ℕ) (held : holds (transaction_at s.machine.transactions h) (page_of x) ≡ true) where
   -- a store at x
   may_store : access (rights s.machine).stores s.memory x ≡ Allowed

@@ -1,8 +1,6 @@
 -- The blank machine, and what a refused load gives back.
-use Rattle.std.specs.Prelude.{ℕ, false, cond, replicate}
+use Rattle.std.specs.Prelude.{ℕ, false, cond, replicate, None}
 use Rattle.model.specs.declared.Registers.{Registers}
-use Rattle.model.specs.declared.Inbox.TheVariants.{Empty}
-use Rattle.model.specs.declared.Owner.TheVariants.{Nobody}
 use Rattle.model.specs.declared.Mode.TheVariants.{Halted}
 use Rattle.model.specs.declared.Machine.{Machine}
 use Rattle.model.specs.declared.Answer.{Answer}
@@ -24,8 +22,8 @@ blank =
       m = 0;
       registers = replicate GUESTS blank_registers;
       mailboxes = replicate GUESTS (record { tx = page 0; rx = page 0 });
-      inboxes = replicate GUESTS (record { inbox = Empty });
-      records = replicate PAGES (free_row Nobody);
+      inboxes = replicate GUESTS None;
+      records = replicate PAGES (free_row None);
       transactions = replicate HANDLES freed;
       current = primary;
       mode = Halted;

@@ -1,9 +1,8 @@
 -- What passing handle calls do to the machine: from a handle and its deal, with no caller and no registers.
-use Rattle.std.specs.Prelude.{Bool, true, false, cond, List, set, replicate}
+use Rattle.std.specs.Prelude.{Bool, true, false, cond, List, set, replicate, None, Some}
 use Rattle.model.specs.declared.Handle.{Handle}
 use Rattle.model.specs.declared.PageRecord.{PageRecord}
 use Rattle.model.specs.declared.Deal.{Deal}
-use Rattle.model.specs.declared.Life.TheVariants.{Free, Live}
 use Rattle.model.specs.declared.Transaction.{Transaction}
 use Rattle.model.specs.declared.Machine.{Machine}
 use Rattle.model.specs.Constants.{PLACES}
@@ -20,7 +19,7 @@ unfoldable pub settled : Machine → Handle → Transaction → Transaction → 
 settled m h new t due = with_pages m (recorded m.records t due) (set m.transactions h.0 new)
 
 abbrev pub freed : Transaction
-freed = record { life = Free; pages = replicate PLACES (page 0) }
+freed = record { deal = None; pages = replicate PLACES (page 0) }
 
 unfoldable pub marked : Deal → Bool → Deal
 marked d retrieved =
@@ -28,7 +27,7 @@ marked d retrieved =
 
 -- the same pages under another deal
 unfoldable pub redealt : Transaction → Deal → Transaction
-redealt t d = record { life = Live d; pages = t.pages }
+redealt t d = record { deal = Some d; pages = t.pages }
 
 -- retrieving: the pages of a donation become the receiver's own, and its handle is done with; others are marked
 unfoldable pub retrieved : Machine → Handle → Deal → Machine

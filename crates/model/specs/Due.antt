@@ -1,14 +1,12 @@
 -- The record that the table asks of a page, from the parts that say what the page is used for.
-use Rattle.std.specs.Prelude.{ℕ, Bool, cond, List}
+use Rattle.std.specs.Prelude.{ℕ, Bool, cond, List, Option, None, Some}
+use Rattle.model.specs.declared.Deal.{Deal}
 use Rattle.isa.specs.Tests.{◌or◌}
 use Rattle.model.specs.declared.PageId.{PageId}
 use Rattle.model.specs.declared.Handle.{Handle}
 use Rattle.model.specs.declared.VmId.{VmId}
 use Rattle.model.specs.declared.Mailbox.{Mailbox}
-use Rattle.model.specs.declared.Owner.{Owner}
 use Rattle.model.specs.declared.PageRecord.{PageRecord}
-use Rattle.model.specs.declared.Life.{Life}
-use Rattle.model.specs.declared.Life.TheVariants.{Free, Live}
 use Rattle.model.specs.declared.Transaction.{Transaction}
 use Rattle.model.specs.Constants.{HANDLES}
 use Rattle.model.specs.Tests.{some, first}
@@ -35,13 +33,13 @@ unfoldable pub holder : List Transaction → PageId → Handle
 holder transactions p = handle (first HANDLES (λ h. holds (transaction_at transactions (handle h)) p))
 
 -- the row of the transaction, or of the page's owner where there is none
-unfoldable pub due_in : Life → Owner → PageRecord
-due_in Free owner = free_row owner
-due_in (Live d) owner = row d
+unfoldable pub due_in : Option Deal → Option VmId → PageRecord
+due_in None owner = free_row owner
+due_in (Some d) owner = row d
 
-unfoldable pub due : ℕ → List Mailbox → List Transaction → Owner → PageId → PageRecord
+unfoldable pub due : ℕ → List Mailbox → List Transaction → Option VmId → PageId → PageRecord
 due n boxes transactions owner p =
     cond
     (is_mailbox n boxes p)
     (mailbox_row (keeper n boxes p))
-    (due_in (transaction_at transactions (holder transactions p)).life owner)
+    (due_in (transaction_at transactions (holder transactions p)).deal owner)

@@ -1,11 +1,10 @@
 -- The frame law of a transaction: no act takes a live handle from its deal and its pages but the sender's reclaim and, of a
 -- donation, the receiver's retrieve; and the mark follows the events. Proved in `proofs/Frame.antt`.
-use Rattle.std.specs.Prelude.{◌≡◌, Bool, true, false, List}
+use Rattle.std.specs.Prelude.{◌≡◌, Bool, true, false, List, Some}
 use Rattle.model.specs.declared.VmId.{VmId}
 use Rattle.model.specs.declared.PageId.{PageId}
 use Rattle.model.specs.declared.Handle.{Handle}
 use Rattle.model.specs.declared.Deal.{Deal}
-use Rattle.model.specs.declared.Life.TheVariants.{Live}
 use Rattle.model.specs.declared.Transaction.{Transaction}
 use Rattle.model.specs.State.{State, transaction_at}
 use Rattle.model.specs.Shaped.{Shaped}
@@ -15,7 +14,7 @@ use Rattle.model.specs.Act.{Act, after, Event, Retrieved, Relinquished, Reclaime
 
 -- a live transaction
 abbrev pub dealt : Deal → List PageId → Transaction
-dealt d pages = record { life = Live d; pages = pages }
+dealt d pages = record { deal = Some d; pages = pages }
 
 -- what an event does to the mark of h, whose receiver is j
 pub data Marking (j : VmId) (h : Handle) (e : Event) (before after : Bool) : Type 0 where

@@ -1,13 +1,11 @@
 -- The events are honest: what an event says took place, and memory changes by nothing else but messages. Proved in
 -- `proofs/Honest.antt`.
-use Rattle.std.specs.Prelude.{ℕ, ◌≡◌, Bool, true, false, cond, List, ◌⊎◌, length, set}
+use Rattle.std.specs.Prelude.{ℕ, ◌≡◌, Bool, true, false, cond, List, ◌⊎◌, length, set, Option, None, Some}
 use Rattle.model.specs.declared.VmId.{VmId}
 use Rattle.model.specs.declared.PageId.{PageId}
 use Rattle.model.specs.declared.Handle.{Handle}
 use Rattle.model.specs.declared.Kind.{Kind}
 use Rattle.model.specs.declared.Deal.{Deal}
-use Rattle.model.specs.declared.Life.{Life}
-use Rattle.model.specs.declared.Life.TheVariants.{Free, Live}
 use Rattle.model.specs.declared.Access.TheVariants.{Allowed}
 use Rattle.model.specs.Constants.{SEND, SUCCESS}
 use Rattle.model.specs.State.{State, same_page, mailbox_at, argument, record_at, transaction_at}
@@ -52,19 +50,19 @@ EventsAreHonest =
 
 -- guest g, the party that may, found a deal under h, marked so, and left this there
 pub record Happened (a : Act) (s : State) (g : VmId) (h : Handle)
-    (may : Deal → VmId → Bool) (mark : Bool) (left : Deal → Life) : Type 0 where
+    (may : Deal → VmId → Bool) (mark : Bool) (left : Deal → Option Deal) : Type 0 where
   pub deal : Deal
   pub is_current : s.machine.current ≡ g
-  pub was_live : (transaction_at s.machine.transactions h).life ≡ Live deal
+  pub was_live : (transaction_at s.machine.transactions h).deal ≡ Some deal
   pub was_party : may deal g ≡ true
   pub was_marked : deal.retrieved ≡ mark
-  pub is_left : (transaction_at (after a s).machine.transactions h).life ≡ left deal
+  pub is_left : (transaction_at (after a s).machine.transactions h).deal ≡ left deal
 
 -- guest i has sent just these pages, its own, to j under h, which was free
 pub record PagesWent (a : Act) (s : State) (k : Kind) (i j : VmId) (h : Handle) (ps : List PageId) : Type 0 where
   pub is_current : s.machine.current ≡ i
-  pub was_free : is_free (transaction_at s.machine.transactions h).life ≡ true
-  pub is_live : (transaction_at (after a s).machine.transactions h).life ≡ Live (deal i j k false (length ps))
+  pub was_free : is_free (transaction_at s.machine.transactions h).deal ≡ true
+  pub is_live : (transaction_at (after a s).machine.transactions h).deal ≡ Some (deal i j k false (length ps))
   pub just_these : (p : PageId) → holds (transaction_at (after a s).machine.transactions h) p ≡ is_in p ps
   pub were_own : (p : PageId) → is_in p ps ≡ true → record_at s.machine.records p ≡ owned_row i
 
@@ -76,10 +74,10 @@ pub record TookPlace (a : Act) (s : State) : Type 0 where
   pub sent : (k : Kind) (i j : VmId) (h : Handle) (ps : List PageId) → event_of a s ≡ Sent k i j h ps → PagesWent a s k i j h ps
   pub retrieved :
       (g : VmId) (h : Handle) → event_of a s ≡ Retrieved g h
-      → Happened a s g h receives false (λ d. cond (donates d.kind) Free (Live (marked d true)))
+      → Happened a s g h receives false (λ d. cond (donates d.kind) None (Some (marked d true)))
   pub relinquished :
-      (g : VmId) (h : Handle) → event_of a s ≡ Relinquished g h → Happened a s g h receives true (λ d. Live (marked d false))
-  pub reclaimed : (g : VmId) (h : Handle) → event_of a s ≡ Reclaimed g h → Happened a s g h sends false (λ d. Free)
+      (g : VmId) (h : Handle) → event_of a s ≡ Relinquished g h → Happened a s g h receives true (λ d. Some (marked d false))
+  pub reclaimed : (g : VmId) (h : Handle) → event_of a s ≡ Reclaimed g h → Happened a s g h sends false (λ d. None)
 
 abbrev pub EventsTakePlace : Type 0
 EventsTakePlace = (a : Act) (s : State) → Shaped s.machine → TookPlace a s

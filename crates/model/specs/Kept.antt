@@ -1,8 +1,7 @@
 -- What every step and every call keeps: soundness, and how many pages have an owner. Proved in `proofs/Kept.antt` and
 -- `proofs/Owners.antt`.
-use Rattle.std.specs.Prelude.{ℕ, ◌*◌, ◌≡◌, Bool, true, false, List, length}
-use Rattle.model.specs.declared.Owner.{Owner}
-use Rattle.model.specs.declared.Owner.TheVariants.{Nobody, Guest}
+use Rattle.std.specs.Prelude.{ℕ, ◌*◌, ◌≡◌, Bool, true, false, List, length, Option, None, Some}
+use Rattle.model.specs.declared.VmId.{VmId}
 use Rattle.model.specs.declared.PageRecord.{PageRecord}
 use Rattle.model.specs.declared.Machine.{Machine}
 use Rattle.model.specs.declared.Answer.TheVariants.{Done}
@@ -47,9 +46,9 @@ AcceptedForEver = (s : State) → Accepted s → (acts : List Act) → Accepted 
 
 -- Owners.
 
-unfoldable pub is_owned : Owner → Bool
-is_owned Nobody = false
-is_owned (Guest g) = true
+unfoldable pub is_owned : Option VmId → Bool
+is_owned None = false
+is_owned (Some g) = true
 
 -- page p has an owner
 unfoldable pub owned_at : List PageRecord → ℕ → Bool

@@ -1,9 +1,8 @@
 -- What holds over every number, and no worked case can show. Proved in `proofs/Laws.antt`.
-use Rattle.std.specs.Prelude.{ℕ, ◌+◌, ◌≤◌, ◌<◌, ◌≡◌, true, false, List, [], ◌∷◌, get_or}
+use Rattle.std.specs.Prelude.{ℕ, ◌+◌, ◌≤◌, ◌<◌, ◌≡◌, true, false, List, [], ◌∷◌, get_or, None}
 use Rattle.model.specs.declared.Kind.{Kind}
 use Rattle.model.specs.declared.Handle.{Handle}
 use Rattle.model.specs.declared.Transaction.{Transaction}
-use Rattle.model.specs.declared.Found.TheVariants.{Nothing}
 use Rattle.model.specs.declared.Answer.TheVariants.{Done, WrongMemory, Unsound}
 use Rattle.model.specs.Constants.{GUESTS}
 use Rattle.model.specs.State.{State, registers_at, register, transaction_at, handle}
@@ -18,7 +17,7 @@ use Rattle.model.specs.Entries.{check_of}
 
 -- a handle word above 15 finds nothing
 abbrev pub NothingAboveLast : Type 0
-NothingAboveLast = (transactions : List Transaction) (w : ℕ) → 15 < w → lookup transactions w ≡ Nothing
+NothingAboveLast = (transactions : List Transaction) (w : ℕ) → 15 < w → lookup transactions w ≡ None
 
 -- the pages of a sending that passes strictly ascend
 abbrev pub SentPagesAscend : Type 0
@@ -29,8 +28,8 @@ SentPagesAscend =
 -- a sending takes handle h, which is the lowest free one, and no other; R2 names it
 pub record TakesLowestFree (kind : Kind) (s : State) (h : Handle) : Type 0 where
   pub is_handle : h.0 ≤ 15
-  pub was_free : is_free (transaction_at s.machine.transactions h).life ≡ true
-  pub lower_are_live : (k : ℕ) → k < h.0 → is_free (transaction_at s.machine.transactions (handle k)).life ≡ false
+  pub was_free : is_free (transaction_at s.machine.transactions h).deal ≡ true
+  pub lower_are_live : (k : ℕ) → k < h.0 → is_free (transaction_at s.machine.transactions (handle k)).deal ≡ false
   pub is_taken : transaction_at (sending_effect kind s).machine.transactions h ≡ sent_transaction kind s
   pub others_stay :
       (k : ℕ) → (k ≡ h.0 → ⊥)

@@ -1,12 +1,11 @@
 -- Runs up to a call: what such a run is, that runs are made of them, and the lines of a bench. Proved in `proofs/Legs.antt`.
-use Rattle.std.specs.Prelude.{ℕ, ◌+◌, ◌-◌, ◌*◌, ◌≤◌, ◌<◌, ◌≡◌, true, false, List, [], ◌∷◌, ◌++◌, replicate}
+use Rattle.model.specs.ToCall.{made, calls_next, Leg, leg, to_call, WentToCall, went_to_call, run_to_call_of, Line, line_of, lines_from}
+use Rattle.std.specs.Prelude.{ℕ, ◌+◌, ◌-◌, ◌*◌, ◌≤◌, ◌<◌, ◌≡◌, true, false, List, [], ◌∷◌, ◌++◌, replicate, Option, None, Some}
+use Rattle.model.specs.declared.MadeCall.{MadeCall}
 use Rattle.model.specs.declared.VmId.{VmId}
-use Rattle.model.specs.declared.Inbox.TheVariants.{Empty}
 use Rattle.model.specs.declared.Mode.{Mode}
 use Rattle.model.specs.declared.Mode.TheVariants.{Normal, Halted}
 use Rattle.model.specs.declared.Machine.{Machine}
-use Rattle.model.specs.declared.NextCall.{NextCall}
-use Rattle.model.specs.declared.NextCall.TheVariants.{None, Made}
 use Rattle.model.specs.State.{State, state, vm, argument, is_normal}
 use Rattle.model.specs.Answer.{answer_number, is_done}
 use Rattle.model.specs.Deeds.{freed}
@@ -15,7 +14,6 @@ use Rattle.model.specs.Entries.{check_of, steps, run_of}
 use Rattle.model.specs.Act as act
 use Rattle.model.specs.Kept.{Accepted}
 use Rattle.model.specs.RunSteps.{stepped}
-use Rattle.model.specs.ToCall.{calls_next, Leg, leg, to_call, WentToCall, went_to_call, run_to_call_of, Line, line_of, lines_from}
 use Rattle.model.specs.PCases.{box, owned, ownerless, words}
 
 -- A run up to a call is its steps.
@@ -38,8 +36,8 @@ pub record LegSteps (s : State) (budget : ℕ) (a : WentToCall) : Type 0 where
   pub each_normal : (i : ℕ) → i < a.result.count → is_normal (stepped i s).machine.mode ≡ true
   pub each_answers_0 : (i : ℕ) → i < a.result.count → is_done (act.entry_of act.step (stepped i s)).result.answer ≡ true
   pub no_call_before : (i : ℕ) → i + 1 < a.result.count → calls_next (stepped i s) ≡ false
-  pub named_is_last : (g : VmId) (w : ℕ) → a.result.call ≡ Made g w → EndsInCall s a.result.count g w
-  pub last_is_named : (g : VmId) (w : ℕ) → EndsInCall s a.result.count g w → a.result.call ≡ Made g w
+  pub named_is_last : (g : VmId) (w : ℕ) → a.result.call ≡ Some (made g w) → EndsInCall s a.result.count g w
+  pub last_is_named : (g : VmId) (w : ℕ) → EndsInCall s a.result.count g w → a.result.call ≡ Some (made g w)
   pub stops_short : a.result.call ≡ None → a.result.count < budget → is_normal a.result.machine.mode ≡ false
 
 abbrev pub LegIsItsSteps : Type 0
@@ -54,9 +52,9 @@ LegRefused =
 -- A run is a leg, and then the rest; so are its lines.
 
 -- the line of the call that a leg came to, if it came to one
-unfoldable pub line_for : ℕ → NextCall → Machine → List Line
+unfoldable pub line_for : ℕ → Option MadeCall → Machine → List Line
 line_for step None after = []
-line_for step (Made g w) after = line_of step g w after ∷ []
+line_for step (Some made) after = line_of step made.caller made.r0 after ∷ []
 
 pub record ThenRest (budget : ℕ) (s : State) (l : Leg) : Type 0 where
   pub reaches : (steps budget s).reached ≡ (steps (budget - l.count) l.reached).reached
@@ -89,7 +87,7 @@ two_guests =
       m = 7;
       registers = blank_registers ∷ record { r = replicate 8 0; pc = 0x400; equal = false } ∷ replicate 6 blank_registers;
       mailboxes = box 2 3 ∷ box 4 5 ∷ replicate 6 (box 0 0);
-      inboxes = replicate 8 (record { inbox = Empty });
+      inboxes = replicate 8 None;
       records =
           owned 0 0b01 true
           ∷ owned 1 0b10 true

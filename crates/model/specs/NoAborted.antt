@@ -1,10 +1,9 @@
 -- On a sound machine the calls on a handle never answer ABORTED: the test of the page records can be left out. Proved in
 -- `proofs/NoAborted.antt`.
-use Rattle.std.specs.Prelude.{◌≡◌, Bool, ℕ}
+use Rattle.std.specs.Prelude.{◌≡◌, Bool, ℕ, Option, None, Some}
+use Rattle.model.specs.declared.Handle.{Handle}
 use Rattle.model.specs.declared.VmId.{VmId}
 use Rattle.model.specs.declared.Deal.{Deal}
-use Rattle.model.specs.declared.Found.{Found}
-use Rattle.model.specs.declared.Found.TheVariants.{Nothing, Live}
 use Rattle.model.specs.declared.Machine.{Machine}
 use Rattle.model.specs.Constants.{INVALID, DENIED}
 use Rattle.model.specs.Tests.{agree}
@@ -13,9 +12,9 @@ use Rattle.model.specs.Reply.{Verdict, passes, refused, need}
 use Rattle.model.specs.HandleCall.{lookup, handle_verdict}
 
 -- the chain of tests without that of the records
-unfoldable pub short_verdict : (Deal → VmId → Bool) → Bool → Machine → Found → Verdict
-short_verdict may mark m Nothing = refused INVALID
-short_verdict may mark m (Live h d) = need (may d m.current) DENIED (need (agree d.retrieved mark) DENIED passes)
+unfoldable pub short_verdict : (Deal → VmId → Bool) → Bool → Machine → Option (Handle × Deal) → Verdict
+short_verdict may mark m None = refused INVALID
+short_verdict may mark m (Some (h, d)) = need (may d m.current) DENIED (need (agree d.retrieved mark) DENIED passes)
 
 -- for Retrieve, Relinquish and Reclaim alike, and whatever the handle word
 abbrev pub NoAborted : Type 0

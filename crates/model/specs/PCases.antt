@@ -3,7 +3,8 @@
 --
 -- The machine has three guests and ten pages: pages 0 to 2 are owned by guests 0 to 2, pages 3 to 8 are TX and RX of
 -- guests 0, 1 and 2, and page 9 is owned by guest 1. Who is current is set by hand before each call.
-use Rattle.std.specs.Prelude.{ℕ, ◌*◌, ◌<◌, ◌≡◌, Bool, true, false, List, [], ◌∷◌}
+use Rattle.std.specs.Prelude.{ℕ, ◌*◌, ◌<◌, ◌≡◌, Bool, true, false, List, [], ◌∷◌, Option, None, Some}
+use Rattle.model.specs.declared.Deal.{Deal}
 use lib.ListN.{replicate}
 use Rattle.std.proofs.Math.Seq.{paste}
 use Rattle.isa.specs.declared.Instruction.TheVariants.{Movi}
@@ -12,13 +13,9 @@ use Rattle.isa.specs.Decode.{decode_of}
 use Rattle.model.specs.declared.VmId.{VmId}
 use Rattle.model.specs.declared.Registers.{Registers}
 use Rattle.model.specs.declared.Mailbox.{Mailbox}
-use Rattle.model.specs.declared.Inbox.TheVariants.{Empty}
-use Rattle.model.specs.declared.Owner.TheVariants.{Nobody, Guest}
 use Rattle.model.specs.declared.PageRecord.{PageRecord}
 use Rattle.model.specs.declared.Kind.{Kind}
 use Rattle.model.specs.declared.Kind.TheVariants.{Lend, Share}
-use Rattle.model.specs.declared.Life.{Life}
-use Rattle.model.specs.declared.Life.TheVariants.{Free, Live}
 use Rattle.model.specs.declared.Transaction.{Transaction}
 use Rattle.model.specs.declared.Mode.TheVariants.{Normal}
 use Rattle.model.specs.declared.Machine.{Machine}
@@ -40,10 +37,10 @@ box tx rx = record { tx = page tx; rx = page rx }
 
 -- a record by its columns: the owner, the guests with access as bits, the exclusive mark
 unfoldable pub owned : ℕ → ℕ → Bool → PageRecord
-owned owner access exclusive = page_record (Guest (vm owner)) (record { 0 = access }) exclusive
+owned owner access exclusive = page_record (Some (vm owner)) (record { 0 = access }) exclusive
 
 unfoldable pub ownerless : ℕ → Bool → PageRecord
-ownerless access exclusive = page_record Nobody (record { 0 = access }) exclusive
+ownerless access exclusive = page_record None (record { 0 = access }) exclusive
 
 -- three guests, each with a page of its own and its TX and RX page; the rest is given: the number of pages, the register
 -- files, the records from page 9 on, the handles and who is current
@@ -54,7 +51,7 @@ three_guests m registers rest transactions current =
       m = m;
       registers = registers;
       mailboxes = box 3 4 ∷ box 5 6 ∷ box 7 8 ∷ replicate 5 (box 0 0);
-      inboxes = replicate 8 (record { inbox = Empty });
+      inboxes = replicate 8 None;
       records =
           owned 0 0b001 true
           ∷ owned 1 0b010 true
@@ -116,7 +113,7 @@ pub record Seen : Type 0 where
   pub r0 : ℕ
   pub r2 : ℕ
   pub page9 : PageRecord
-  pub handle0 : Life
+  pub handle0 : Option Deal
 
 unfoldable pub seen_by : VmId → Acted → Seen
 seen_by g a =
@@ -125,10 +122,10 @@ seen_by g a =
       r0 = register (registers_at a.result.machine.registers g) 0;
       r2 = register (registers_at a.result.machine.registers g) 2;
       page9 = record_at a.result.machine.records (page 9);
-      handle0 = (transaction_at a.result.machine.transactions (handle 0)).life;
+      handle0 = (transaction_at a.result.machine.transactions (handle 0)).deal;
     }
 
-unfoldable pub seen : ℕ → ℕ → ℕ → PageRecord → Life → Seen
+unfoldable pub seen : ℕ → ℕ → ℕ → PageRecord → Option Deal → Seen
 seen answer r0 r2 page9 handle0 = record { answer = answer; r0 = r0; r2 = r2; page9 = page9; handle0 = handle0 }
 
 -- every page's record is in both what it is in the other
@@ -137,9 +134,9 @@ same_records a b =
     every 64 (λ p. same_record (record_at a.result.machine.records (page p)) (record_at b.result.machine.records (page p)))
 
 -- a transaction of one page from guest 1 to guest 2
-unfoldable pub from1to2 : Kind → Bool → Life
+unfoldable pub from1to2 : Kind → Bool → Option Deal
 from1to2 kind retrieved =
-    Live (record { sender = vm 1; receiver = vm 2; kind = kind; retrieved = retrieved; count = 1 })
+    Some (record { sender = vm 1; receiver = vm 2; kind = kind; retrieved = retrieved; count = 1 })
 
 -- The cases, each after those that it goes on from.
 
@@ -176,16 +173,16 @@ pub record PCases : Type 0 where
   pub P2 : seen_by (vm 2) share_retrieved ≡ seen 0 0x84000061 0 (owned 1 0b110 false) (from1to2 Share true)
   pub P3 : seen_by (vm 1) reclaimed_early ≡ seen 0 0x84000060 4294967290 (owned 1 0b110 false) (from1to2 Share true)
   pub P3-no-record-changes : same_records reclaimed_early share_retrieved ≡ true
-  pub P4 : seen_by (vm 1) reclaimed_late ≡ seen 0 0x84000061 0 (owned 1 0b010 true) Free
+  pub P4 : seen_by (vm 1) reclaimed_late ≡ seen 0 0x84000061 0 (owned 1 0b010 true) None
   pub P5 : seen_by (vm 2) lend_retrieved ≡ seen 0 0x84000061 0 (owned 1 0b100 true) (from1to2 Lend true)
-  pub P6 : seen_by (vm 2) donation_retrieved ≡ seen 0 0x84000061 0 (owned 2 0b100 true) Free
+  pub P6 : seen_by (vm 2) donation_retrieved ≡ seen 0 0x84000061 0 (owned 2 0b100 true) None
   pub P7 : seen_by (vm 0) retrieved_by_zero ≡ seen 0 0x84000060 4294967290 (owned 1 0b010 false) (from1to2 Share false)
-  pub P8 : seen_by (vm 1) (send 0x84000073 (3 ∷ 0x00020003 ∷ 9217 ∷ [])) ≡ seen 0 0x84000060 4294967294 (owned 1 0b010 true) Free
-  pub P9 : seen_by (vm 1) (send 0x84000073 (3 ∷ 0x00020003 ∷ 5120 ∷ [])) ≡ seen 0 0x84000060 4294967290 (owned 1 0b010 true) Free
-  pub P10-none : seen_by (vm 1) (message_of_length 0) ≡ seen 0 0x84000060 4294967294 (owned 1 0b010 true) Free
-  pub P10-above : seen_by (vm 1) (message_of_length 1025) ≡ seen 0 0x84000060 4294967294 (owned 1 0b010 true) Free
-  pub P10-all : seen_by (vm 1) (message_of_length 1024) ≡ seen 0 0x84000061 1024 (owned 1 0b010 true) Free
-  pub P11 : seen_by (vm 0) (instruction 0x00001006 0xFFFFFFFF 1) ≡ seen 0 0 0 (owned 1 0b010 true) Free
+  pub P8 : seen_by (vm 1) (send 0x84000073 (3 ∷ 0x00020003 ∷ 9217 ∷ [])) ≡ seen 0 0x84000060 4294967294 (owned 1 0b010 true) None
+  pub P9 : seen_by (vm 1) (send 0x84000073 (3 ∷ 0x00020003 ∷ 5120 ∷ [])) ≡ seen 0 0x84000060 4294967290 (owned 1 0b010 true) None
+  pub P10-none : seen_by (vm 1) (message_of_length 0) ≡ seen 0 0x84000060 4294967294 (owned 1 0b010 true) None
+  pub P10-above : seen_by (vm 1) (message_of_length 1025) ≡ seen 0 0x84000060 4294967294 (owned 1 0b010 true) None
+  pub P10-all : seen_by (vm 1) (message_of_length 1024) ≡ seen 0 0x84000061 1024 (owned 1 0b010 true) None
+  pub P11 : seen_by (vm 0) (instruction 0x00001006 0xFFFFFFFF 1) ≡ seen 0 0 0 (owned 1 0b010 true) None
   pub P12 : decode_of 0x006C0001 ≡ Meaning (Movi 0 108)
   pub P12-none : decode_of 0x00000801 ≡ NotInstruction
 

@@ -5,7 +5,7 @@
 -- are stored to one word. The sender is denied to reclaim while the pages are retrieved, and so is another guest: in the
 -- share the receiver, once it has given the page back, so that it is denied for who it is. Registers and programs are those
 -- of the start: nothing is set by hand in between.
-use Rattle.std.specs.Prelude.{ℕ, ◌-◌, ◌*◌, ◌≡◌, true, false, List, [], ◌∷◌, map, replicate}
+use Rattle.std.specs.Prelude.{ℕ, ◌-◌, ◌*◌, ◌≡◌, true, false, List, [], ◌∷◌, map, replicate, Some}
 use Rattle.isa.specs.declared.Instruction.{Instruction}
 use Rattle.isa.specs.declared.Instruction.TheVariants.{Movi, Mov, Str, Addi, Hvc}
 use Rattle.isa.specs.Word.{word_of}
@@ -17,7 +17,6 @@ use Rattle.model.specs.declared.Registers.{Registers}
 use Rattle.model.specs.declared.PageRecord.{PageRecord}
 use Rattle.model.specs.declared.Kind.{Kind}
 use Rattle.model.specs.declared.Kind.TheVariants.{Lend, Share}
-use Rattle.model.specs.declared.Life.TheVariants.{Live}
 use Rattle.model.specs.declared.Transaction.{Transaction}
 use Rattle.model.specs.declared.Machine.{Machine}
 use Rattle.model.specs.Constants.{ERROR, SUCCESS, RUN, YIELD, LEND, SHARE, RETRIEVE, RELINQUISH, RECLAIM, DENIED}
@@ -40,7 +39,7 @@ file r pc = record { r = r; pc = pc; equal = false }
 unfoldable pub in_flight : Kind → VmId → VmId → Transaction
 in_flight kind sender receiver =
     record {
-      life = Live (record { sender = sender; receiver = receiver; kind = kind; retrieved = true; count = 1 });
+      deal = Some (record { sender = sender; receiver = receiver; kind = kind; retrieved = true; count = 1 });
       pages = page 10 ∷ replicate 7 (page 0);
     }
 

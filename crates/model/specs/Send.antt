@@ -1,12 +1,11 @@
 -- The call Send: words of the caller's TX page go to another guest's RX page.
-use Rattle.std.specs.Prelude.{ℕ, List, leb}
+use Rattle.model.specs.State.{message, State, state, vm, primary, written, mailbox_at, inbox_at, is_empty, argument, with_inbox, with_inboxes}
+use Rattle.std.specs.Prelude.{ℕ, List, leb, Some}
 use Rattle.std.proofs.Math.Seq.{paste}
 use Rattle.isa.specs.Tests.{◌and◌}
 use Rattle.model.specs.declared.VmId.{VmId}
-use Rattle.model.specs.declared.Inbox.TheVariants.{Full}
 use Rattle.model.specs.declared.Machine.{Machine}
 use Rattle.model.specs.Constants.{PAGE, SEND, INVALID, BUSY}
-use Rattle.model.specs.State.{State, state, vm, primary, written, mailbox_at, inbox_at, is_empty, argument, with_inbox, with_inboxes}
 use Rattle.model.specs.Memory.{base_of, tx_words}
 use Rattle.model.specs.Reply.{Verdict, passes, need, answer, succeeded, told, woken, is_other}
 
@@ -33,7 +32,7 @@ notified m receiver = woken m (written (told m.registers SEND m.current) primary
 
 -- the receiver's inbox says how long the message is, and from whom
 abbrev pub delivered_to : Machine → VmId → ℕ → Machine
-delivered_to m receiver length = with_inboxes m (with_inbox m.inboxes receiver (Full length m.current))
+delivered_to m receiver length = with_inboxes m (with_inbox m.inboxes receiver (Some (message length m.current)))
 
 unfoldable pub delivered : Machine → Machine
 delivered m = delivered_to m (send_to m) (send_length m)

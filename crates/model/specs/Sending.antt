@@ -1,5 +1,5 @@
 -- The calls Donate, Lend and Share: one definition, over the kind.
-use Rattle.std.specs.Prelude.{ℕ, ◌+◌, ◌-◌, ◌/◌, ◌%◌, Bool, true, false, List, replicate, ltb, leb, eqb}
+use Rattle.std.specs.Prelude.{ℕ, ◌+◌, ◌-◌, ◌/◌, ◌%◌, Bool, true, false, List, replicate, ltb, leb, eqb, Option, None, Some}
 use Rattle.isa.specs.Tests.{◌and◌}
 use Rattle.model.specs.declared.VmId.{VmId}
 use Rattle.model.specs.declared.PageId.{PageId}
@@ -7,8 +7,6 @@ use Rattle.model.specs.declared.Handle.{Handle}
 use Rattle.model.specs.declared.Kind.{Kind}
 use Rattle.model.specs.declared.PageRecord.{PageRecord}
 use Rattle.model.specs.declared.Deal.{Deal}
-use Rattle.model.specs.declared.Life.{Life}
-use Rattle.model.specs.declared.Life.TheVariants.{Free, Live}
 use Rattle.model.specs.declared.Transaction.{Transaction}
 use Rattle.model.specs.declared.Machine.{Machine}
 use Rattle.model.specs.Constants.{PAGE, HANDLES, PLACES, INVALID, DENIED, NO_MEMORY}
@@ -43,12 +41,12 @@ sent_count s = sent_length s - 2
 
 -- Handles.
 
-unfoldable pub is_free : Life → Bool
-is_free Free = true
-is_free (Live d) = false
+unfoldable pub is_free : Option Deal → Bool
+is_free None = true
+is_free (Some d) = false
 
 unfoldable pub lowest_free : List Transaction → Handle
-lowest_free transactions = handle (first HANDLES (λ h. is_free (transaction_at transactions (handle h)).life))
+lowest_free transactions = handle (first HANDLES (λ h. is_free (transaction_at transactions (handle h)).deal))
 
 -- this guest gets a handle
 unfoldable pub granted : Machine → VmId → Bool
@@ -87,7 +85,7 @@ sent_deal kind s = new_deal kind s.machine.current (vm (sent_to s)) (sent_count 
 
 unfoldable pub sent_transaction : Kind → State → Transaction
 sent_transaction kind s =
-    record { life = Live (sent_deal kind s); pages = set_each (sent_count s) (λ i. i) (sent_page s) (replicate PLACES (page 0)) }
+    record { deal = Some (sent_deal kind s); pages = set_each (sent_count s) (λ i. i) (sent_page s) (replicate PLACES (page 0)) }
 
 -- the lowest free handle gets the transaction, and its pages their row
 abbrev pub sent_under : Machine → Transaction → PageRecord → Machine

@@ -1,39 +1,33 @@
 -- Soundness, clause by clause: beside each clause as a computed test, in small letters, stands the same clause as a
 -- plain fact. Each takes only the parts of the machine that it reads. `proofs/Sound.antt` proves each from the other.
-use Rattle.std.specs.Prelude.{ℕ, suc, ◌*◌, ◌≤◌, ◌<◌, ◌≡◌, Bool, true, false, not, List, ltb, leb, eqb}
+use Rattle.model.specs.State.{message, vm, page, same_vm, same_page, registers_at, register, mailbox_at, inbox_at, is_empty, record_at, page_at, count_of, transaction_at, handle}
+use Rattle.std.specs.Prelude.{ℕ, suc, ◌*◌, ◌≤◌, ◌<◌, ◌≡◌, Bool, true, false, not, List, ltb, leb, eqb, Option, None, Some}
+use Rattle.model.specs.declared.Message.{Message}
 use Rattle.isa.specs.Tests.{◌and◌, ◌or◌}
 use Rattle.model.specs.declared.VmId.{VmId}
 use Rattle.model.specs.declared.PageId.{PageId}
 use Rattle.model.specs.declared.Registers.{Registers}
 use Rattle.model.specs.declared.Mailbox.{Mailbox}
-use Rattle.model.specs.declared.Inbox.{Inbox}
-use Rattle.model.specs.declared.Inbox.TheVariants.{Empty, Full}
-use Rattle.model.specs.declared.InboxSlot.{InboxSlot}
-use Rattle.model.specs.declared.Owner.{Owner}
-use Rattle.model.specs.declared.Owner.TheVariants.{Nobody, Guest}
 use Rattle.model.specs.declared.PageRecord.{PageRecord}
 use Rattle.model.specs.declared.Deal.{Deal}
-use Rattle.model.specs.declared.Life.{Life}
-use Rattle.model.specs.declared.Life.TheVariants.{Free, Live}
 use Rattle.model.specs.declared.Transaction.{Transaction}
 use Rattle.model.specs.declared.Machine.{Machine}
 use Rattle.model.specs.Constants.{PAGE, GUESTS, PAGES, HANDLES, PLACES}
 use Rattle.model.specs.Tests.{every, ascending}
-use Rattle.model.specs.State.{vm, page, same_vm, same_page, registers_at, register, mailbox_at, inbox_at, is_empty, record_at, page_at, count_of, transaction_at, handle}
 use Rattle.model.specs.Row.{donates, free_row, same_record}
 use Rattle.model.specs.Due.{keeps, is_mailbox, holds, due}
 
 -- Every live transaction, every page of one, every waiting message of one of n guests, every owned page of m.
 
-unfoldable pub if_live : Life → (Deal → Bool) → Bool
-if_live Free test = true
-if_live (Live d) test = test d
+unfoldable pub if_live : Option Deal → (Deal → Bool) → Bool
+if_live None test = true
+if_live (Some d) test = test d
 
 unfoldable pub each_deal : List Transaction → (Deal → Bool) → Bool
-each_deal transactions test = every HANDLES (λ h. if_live (transaction_at transactions (handle h)).life test)
+each_deal transactions test = every HANDLES (λ h. if_live (transaction_at transactions (handle h)).deal test)
 
 abbrev pub EachDeal : List Transaction → (Deal → Type 0) → Type 0
-EachDeal transactions Fact = (h : ℕ) (d : Deal) → h < HANDLES → (transaction_at transactions (handle h)).life ≡ Live d → Fact d
+EachDeal transactions Fact = (h : ℕ) (d : Deal) → h < HANDLES → (transaction_at transactions (handle h)).deal ≡ Some d → Fact d
 
 unfoldable pub each_page : List Transaction → (PageId → Bool) → Bool
 each_page transactions test =
@@ -43,20 +37,20 @@ abbrev pub EachPage : List Transaction → (PageId → Type 0) → Type 0
 EachPage transactions Fact =
     (h i : ℕ) → h < HANDLES → i < count_of (transaction_at transactions (handle h)) → Fact (page_at (transaction_at transactions (handle h)) i)
 
-unfoldable pub if_full : Inbox → (ℕ → VmId → Bool) → Bool
-if_full Empty test = true
-if_full (Full length sender) test = test length sender
+unfoldable pub if_full : Option Message → (ℕ → VmId → Bool) → Bool
+if_full None test = true
+if_full (Some message) test = test message.length message.sender
 
-unfoldable pub each_message : ℕ → List InboxSlot → (VmId → ℕ → VmId → Bool) → Bool
+unfoldable pub each_message : ℕ → List (Option Message) → (VmId → ℕ → VmId → Bool) → Bool
 each_message n inboxes test = every n (λ g. if_full (inbox_at inboxes (vm g)) (test (vm g)))
 
-abbrev pub EachMessage : ℕ → List InboxSlot → (VmId → ℕ → VmId → Type 0) → Type 0
+abbrev pub EachMessage : ℕ → List (Option Message) → (VmId → ℕ → VmId → Type 0) → Type 0
 EachMessage n inboxes Fact =
-    (g length : ℕ) (sender : VmId) → g < n → inbox_at inboxes (vm g) ≡ Full length sender → Fact (vm g) length sender
+    (g length : ℕ) (sender : VmId) → g < n → inbox_at inboxes (vm g) ≡ Some (message length sender) → Fact (vm g) length sender
 
-unfoldable pub if_owned : Owner → (VmId → Bool) → Bool
-if_owned Nobody test = true
-if_owned (Guest g) test = test g
+unfoldable pub if_owned : Option VmId → (VmId → Bool) → Bool
+if_owned None test = true
+if_owned (Some g) test = test g
 
 -- The four counts: guests, pages, the pages of a transaction, the words of a message.
 
@@ -75,10 +69,10 @@ page_counts_in_range transactions = each_deal transactions (λ d. leb 1 d.count 
 abbrev pub PageCountsInRange : List Transaction → Type 0
 PageCountsInRange transactions = EachDeal transactions (λ d. (1 ≤ d.count) × (d.count ≤ PLACES))
 
-unfoldable pub lengths_in_range : ℕ → List InboxSlot → Bool
+unfoldable pub lengths_in_range : ℕ → List (Option Message) → Bool
 lengths_in_range n inboxes = each_message n inboxes (λ g length sender. leb 1 length and leb length PAGE)
 
-abbrev pub LengthsInRange : ℕ → List InboxSlot → Type 0
+abbrev pub LengthsInRange : ℕ → List (Option Message) → Type 0
 LengthsInRange n inboxes = EachMessage n inboxes (λ g length sender. (1 ≤ length) × (length ≤ PAGE))
 
 -- The mailbox pages differ, a guest's two and those of different guests, and are below m.
@@ -110,18 +104,18 @@ unfoldable pub owners_below : ℕ → ℕ → List PageRecord → Bool
 owners_below n m records = every m (λ p. if_owned (record_at records (page p)).owner (λ g. ltb g.0 n))
 
 abbrev pub OwnersBelow : ℕ → ℕ → List PageRecord → Type 0
-OwnersBelow n m records = (p : ℕ) (g : VmId) → p < m → (record_at records (page p)).owner ≡ Guest g → g.0 < n
+OwnersBelow n m records = (p : ℕ) (g : VmId) → p < m → (record_at records (page p)).owner ≡ Some g → g.0 < n
 
-unfoldable pub senders_below : ℕ → List InboxSlot → Bool
+unfoldable pub senders_below : ℕ → List (Option Message) → Bool
 senders_below n inboxes = each_message n inboxes (λ g length sender. ltb sender.0 n)
 
-abbrev pub SendersBelow : ℕ → List InboxSlot → Type 0
+abbrev pub SendersBelow : ℕ → List (Option Message) → Type 0
 SendersBelow n inboxes = EachMessage n inboxes (λ g length sender. sender.0 < n)
 
-unfoldable pub no_own_sender : ℕ → List InboxSlot → Bool
+unfoldable pub no_own_sender : ℕ → List (Option Message) → Bool
 no_own_sender n inboxes = each_message n inboxes (λ g length sender. not (same_vm sender g))
 
-abbrev pub NoOwnSender : ℕ → List InboxSlot → Type 0
+abbrev pub NoOwnSender : ℕ → List (Option Message) → Type 0
 NoOwnSender n inboxes = EachMessage n inboxes (λ g length sender. sender ≡ g → ⊥)
 
 -- Transactions one by one: two parties, both guests; pages in rising order, each a page of the machine and nobody's
@@ -195,7 +189,7 @@ RecordsDue n m boxes transactions records =
 -- Unused places are blank: guests from n, pages from m, and the page slots behind a transaction's count, which for a
 -- free handle are all of them.
 
-unfoldable pub blank_guest : Registers → Mailbox → Inbox → Bool
+unfoldable pub blank_guest : Registers → Mailbox → Option Message → Bool
 blank_guest file box inbox =
     every 8 (λ i. eqb (register file i) 0)
     and eqb file.pc 0
@@ -204,27 +198,27 @@ blank_guest file box inbox =
     and same_page box.rx (page 0)
     and is_empty inbox
 
-pub record BlankGuest (file : Registers) (box : Mailbox) (inbox : Inbox) : Type 0 where
+pub record BlankGuest (file : Registers) (box : Mailbox) (inbox : Option Message) : Type 0 where
   pub zero_registers : (i : ℕ) → i < 8 → register file i ≡ 0
   pub zero_pc : file.pc ≡ 0
   pub clear_flag : file.equal ≡ false
   pub no_tx : box.tx ≡ page 0
   pub no_rx : box.rx ≡ page 0
-  pub no_message : inbox ≡ Empty
+  pub no_message : inbox ≡ None
 
-unfoldable pub guests_blank : ℕ → List Registers → List Mailbox → List InboxSlot → Bool
+unfoldable pub guests_blank : ℕ → List Registers → List Mailbox → List (Option Message) → Bool
 guests_blank n files boxes inboxes =
     every GUESTS (λ g. ltb g n or blank_guest (registers_at files (vm g)) (mailbox_at boxes (vm g)) (inbox_at inboxes (vm g)))
 
-abbrev pub GuestsBlank : ℕ → List Registers → List Mailbox → List InboxSlot → Type 0
+abbrev pub GuestsBlank : ℕ → List Registers → List Mailbox → List (Option Message) → Type 0
 GuestsBlank n files boxes inboxes =
     (g : ℕ) → g < GUESTS → n ≤ g → BlankGuest (registers_at files (vm g)) (mailbox_at boxes (vm g)) (inbox_at inboxes (vm g))
 
 unfoldable pub pages_blank : ℕ → List PageRecord → Bool
-pages_blank m records = every PAGES (λ p. ltb p m or same_record (record_at records (page p)) (free_row Nobody))
+pages_blank m records = every PAGES (λ p. ltb p m or same_record (record_at records (page p)) (free_row None))
 
 abbrev pub PagesBlank : ℕ → List PageRecord → Type 0
-PagesBlank m records = (p : ℕ) → p < PAGES → m ≤ p → record_at records (page p) ≡ free_row Nobody
+PagesBlank m records = (p : ℕ) → p < PAGES → m ≤ p → record_at records (page p) ≡ free_row None
 
 unfoldable pub places_blank : List Transaction → Bool
 places_blank transactions =

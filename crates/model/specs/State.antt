@@ -1,17 +1,13 @@
 -- A state: the machine and its memory. Reading and replacing the machine's parts.
-use Rattle.std.specs.Prelude.{ℕ, ◌+◌, ◌%◌, Bool, true, false, List, [], get_or, set, eqb}
+use Rattle.std.specs.Prelude.{ℕ, ◌+◌, ◌%◌, Bool, true, false, List, [], get_or, set, eqb, Option, None, Some}
+use Rattle.model.specs.declared.Message.{Message}
+use Rattle.model.specs.declared.Deal.{Deal}
 use Rattle.model.specs.declared.VmId.{VmId}
 use Rattle.model.specs.declared.PageId.{PageId}
 use Rattle.model.specs.declared.Handle.{Handle}
 use Rattle.model.specs.declared.Registers.{Registers}
 use Rattle.model.specs.declared.Mailbox.{Mailbox}
-use Rattle.model.specs.declared.Inbox.{Inbox}
-use Rattle.model.specs.declared.Inbox.TheVariants.{Empty, Full}
-use Rattle.model.specs.declared.InboxSlot.{InboxSlot}
-use Rattle.model.specs.declared.Owner.TheVariants.{Nobody}
 use Rattle.model.specs.declared.PageRecord.{PageRecord}
-use Rattle.model.specs.declared.Life.{Life}
-use Rattle.model.specs.declared.Life.TheVariants.{Free, Live}
 use Rattle.model.specs.declared.Transaction.{Transaction}
 use Rattle.model.specs.declared.Mode.{Mode}
 use Rattle.model.specs.declared.Mode.TheVariants.{Normal, Fault, Halted}
@@ -69,42 +65,45 @@ written files g i v = set files g.0 (with_register (registers_at files g) i v)
 unfoldable pub mailbox_at : List Mailbox → VmId → Mailbox
 mailbox_at boxes g = get_or boxes g.0 (record { tx = page 0; rx = page 0 })
 
-unfoldable pub inbox_at : List InboxSlot → VmId → Inbox
-inbox_at slots g = (get_or slots g.0 (record { inbox = Empty })).inbox
+abbrev pub message : ℕ → VmId → Message
+message length sender = record { length = length; sender = sender }
 
-abbrev pub with_inbox : List InboxSlot → VmId → Inbox → List InboxSlot
-with_inbox slots g inbox = set slots g.0 (record { inbox = inbox })
+unfoldable pub inbox_at : List (Option Message) → VmId → Option Message
+inbox_at slots g = get_or slots g.0 None
 
-unfoldable pub is_empty : Inbox → Bool
-is_empty Empty = true
-is_empty (Full length sender) = false
+abbrev pub with_inbox : List (Option Message) → VmId → Option Message → List (Option Message)
+with_inbox slots g inbox = set slots g.0 inbox
 
-unfoldable pub length_of : Inbox → ℕ
-length_of Empty = 0
-length_of (Full length sender) = length
+unfoldable pub is_empty : Option Message → Bool
+is_empty None = true
+is_empty (Some message) = false
 
-unfoldable pub sender_of : Inbox → VmId
-sender_of Empty = primary
-sender_of (Full length sender) = sender
+unfoldable pub length_of : Option Message → ℕ
+length_of None = 0
+length_of (Some message) = message.length
+
+unfoldable pub sender_of : Option Message → VmId
+sender_of None = primary
+sender_of (Some message) = message.sender
 
 -- Page records and transactions.
 
 unfoldable pub record_at : List PageRecord → PageId → PageRecord
-record_at records p = get_or records p.0 (record { owner = Nobody; access = record { 0 = 0 }; exclusive = false })
+record_at records p = get_or records p.0 (record { owner = None; access = record { 0 = 0 }; exclusive = false })
 
 unfoldable pub transaction_at : List Transaction → Handle → Transaction
-transaction_at transactions h = get_or transactions h.0 (record { life = Free; pages = [] })
+transaction_at transactions h = get_or transactions h.0 (record { deal = None; pages = [] })
 
 unfoldable pub page_at : Transaction → ℕ → PageId
 page_at t i = get_or t.pages i (page 0)
 
-unfoldable pub count_in : Life → ℕ
-count_in Free = 0
-count_in (Live d) = d.count
+unfoldable pub count_in : Option Deal → ℕ
+count_in None = 0
+count_in (Some d) = d.count
 
 -- how many pages a transaction has: a free one has none
 unfoldable pub count_of : Transaction → ℕ
-count_of t = count_in t.life
+count_of t = count_in t.deal
 
 -- The mode.
 
@@ -116,7 +115,7 @@ is_normal Halted = false
 -- The machine with parts replaced. Counts and mailboxes are never among them.
 
 abbrev pub changed :
-    Machine → List Registers → List InboxSlot → List PageRecord → List Transaction → VmId → Mode → Machine
+    Machine → List Registers → List (Option Message) → List PageRecord → List Transaction → VmId → Mode → Machine
 changed m registers inboxes records transactions current mode =
     record {
       n = m.n;
@@ -134,7 +133,7 @@ abbrev pub with_registers : Machine → List Registers → Machine
 with_registers m registers =
     changed m registers m.inboxes m.records m.transactions m.current m.mode
 
-abbrev pub with_inboxes : Machine → List InboxSlot → Machine
+abbrev pub with_inboxes : Machine → List (Option Message) → Machine
 with_inboxes m inboxes =
     changed m m.registers inboxes m.records m.transactions m.current m.mode
 
@@ -158,7 +157,7 @@ own_registers m = registers_at m.registers m.current
 unfoldable pub own_mailbox : Machine → Mailbox
 own_mailbox m = mailbox_at m.mailboxes m.current
 
-unfoldable pub own_inbox : Machine → Inbox
+unfoldable pub own_inbox : Machine → Option Message
 own_inbox m = inbox_at m.inboxes m.current
 
 -- R0 chooses the call, R1 and R2 are its arguments

@@ -1,10 +1,9 @@
 -- A run up to and including the next call, and what is told of a call: the lines of a bench.
-use Rattle.std.specs.Prelude.{ℕ, zero, suc, ◌+◌, Bool, true, false, List, [], ◌∷◌}
+use Rattle.std.specs.Prelude.{ℕ, zero, suc, ◌+◌, Bool, true, false, List, [], ◌∷◌, Option, None, Some}
+use Rattle.model.specs.declared.MadeCall.{MadeCall}
 use Rattle.model.specs.declared.VmId.{VmId}
 use Rattle.model.specs.declared.Machine.{Machine}
 use Rattle.model.specs.declared.Answer.{Answer}
-use Rattle.model.specs.declared.NextCall.{NextCall}
-use Rattle.model.specs.declared.NextCall.TheVariants.{None, Made}
 use Rattle.model.specs.declared.RanToCall.{RanToCall}
 use Rattle.model.specs.State.{State, state, own_registers, argument, registers_at, register, is_normal}
 use Rattle.model.specs.Rights.{rights}
@@ -23,13 +22,16 @@ is_called halted = false
 unfoldable pub calls_next : State → Bool
 calls_next s = is_called (guest_step (rights s.machine) (own_registers s.machine) s.memory)
 
+abbrev pub made : VmId → ℕ → MadeCall
+made caller r0 = record { caller = caller; r0 = r0 }
+
 -- a run up to a call: where it came to, its steps, and the call
 pub record Leg : Type 0 where
   pub reached : State
   pub count : ℕ
-  pub call : NextCall
+  pub call : Option MadeCall
 
-abbrev pub leg : State → ℕ → NextCall → Leg
+abbrev pub leg : State → ℕ → Option MadeCall → Leg
 leg s count call = record { reached = s; count = count; call = call }
 
 unfoldable pub leg_after_step : Leg → Leg
@@ -42,7 +44,7 @@ to_call (suc budget) s =
     elim (is_normal s.machine.mode) [
       | true ↦
           elim (calls_next s) [
-            | true ↦ leg (step_effect s) 1 (Made s.machine.current (argument s.machine 0))
+            | true ↦ leg (step_effect s) 1 (Some (made s.machine.current (argument s.machine 0)))
             | false ↦ leg_after_step (to_call budget (step_effect s))
           ]
       | false ↦ leg s 0 None

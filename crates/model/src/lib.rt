@@ -37,30 +37,18 @@ pub struct Mailbox {
     pub rx: PageId,
 }
 
-// The RX state: what waits in a guest's RX page.
+// A message that waits in a guest's RX page. The RX state is one of these, or nothing.
 #[derive(Clone, Copy)]
-pub enum Inbox {
-    Empty,
-    Full { length: u32, sender: VmId },
+pub struct Message {
+    pub length: u32,
+    pub sender: VmId,
 }
 
-// An inbox in a place of the machine.
-#[derive(Clone, Copy)]
-pub struct InboxSlot {
-    pub inbox: Inbox,
-}
-
-// Whose a page is. Lending and sharing leave the owner.
-#[derive(Clone, Copy)]
-pub enum Owner {
-    Nobody,
-    Guest(VmId),
-}
-
-// What the machine keeps of a page.
+// What the machine keeps of a page: its owner, if it has one, which lending and sharing leave; who has access; and whether that
+// is nobody else.
 #[derive(Clone, Copy)]
 pub struct PageRecord {
-    pub owner: Owner,
+    pub owner: Option<VmId>,
     pub access: VmSet,
     pub exclusive: bool,
 }
@@ -83,17 +71,11 @@ pub struct Deal {
     pub count: u8,
 }
 
-// Whether a handle is in use, and for what.
-#[derive(Clone, Copy)]
-pub enum Life {
-    Free,
-    Live(Deal),
-}
-
-// A handle's place in the machine. The pages stand beside the enum; those from the deal's count on are spare.
+// A handle's place in the machine: the deal that is live under it, if one is. The pages stand beside it; those from the deal's
+// count on are spare, and of a free handle all.
 #[derive(Clone, Copy)]
 pub struct Transaction {
-    pub life: Life,
+    pub deal: Option<Deal>,
     pub pages: [PageId; 8],
 }
 
@@ -112,18 +94,11 @@ pub struct Machine {
     pub m: u8,
     pub registers: [Registers; 8],
     pub mailboxes: [Mailbox; 8],
-    pub inboxes: [InboxSlot; 8],
+    pub inboxes: [Option<Message>; 8],
     pub records: [PageRecord; 64],
     pub transactions: [Transaction; 16],
     pub current: VmId,
     pub mode: Mode,
-}
-
-// What the look-up of a handle word finds.
-#[derive(Clone, Copy)]
-pub enum Found {
-    Nothing,
-    Live(Handle, Deal),
 }
 
 // What the access check says of an address.
@@ -160,20 +135,20 @@ pub struct Ran {
     pub count: u32,
 }
 
-// The call that a run came to, if it came to one: who made it, and its R0 before.
+// A call that a run came to: who made it, and its R0 before.
 #[derive(Clone, Copy)]
-pub enum NextCall {
-    None,
-    Made { caller: VmId, r0: u32 },
+pub struct MadeCall {
+    pub caller: VmId,
+    pub r0: u32,
 }
 
-// What a run up to the next call gives back.
+// What a run up to the next call gives back: also that call, if it came to one.
 #[derive(Clone, Copy)]
 pub struct RanToCall {
     pub answer: Answer,
     pub machine: Machine,
     pub count: u32,
-    pub call: NextCall,
+    pub call: Option<MadeCall>,
 }
 
 // What loading an image gives back: also the image's budget, and where the bad record of a broken one starts.

@@ -1,4 +1,6 @@
 -- A machine that advances does what its guest does in a burst, and then what stopped it.
+use Rattle.model.specs.ToCall.{made}
+use Rattle.std.specs.Prelude.{None, Some}
 use Rattle.std.proofs.Common.{◌≡◌, ℕ, zero, suc, ◌<◌, Bool, true, false, List, length, sym, refl, ap, ◌∙◌, set-set}
 use mathlib.Core.Bool.{false≢true}
 use lib.Seq.{set-get_or}
@@ -6,7 +8,6 @@ use Rattle.isa.specs.Tests.{◌and◌}
 use Rattle.isa.proofs.Tests.{and_false}
 use Rattle.model.specs.declared.Registers.{Registers}
 use Rattle.model.specs.declared.Machine.{Machine}
-use Rattle.model.specs.declared.NextCall.TheVariants.{None, Made}
 use Rattle.model.specs.State.{State, state, registers_at, is_normal, with_registers, own_registers, own_mailbox, argument}
 use Rattle.model.specs.Rights.{rights}
 use Rattle.model.specs.Execute.{Move, moved, called, faulted, halted, guest_step}
@@ -69,7 +70,7 @@ by_call_lem : (onlyToCall : Bool) (budget : ℕ) (s : State) → is_normal s.mac
 unfolding advance_of model.calls_next model.is_called step_effect ended after_stop ◌and◌
 by_call_lem true budget s normal e =
     rw (normal, advance_of)
-    (rw e (ap (λ (y : Move). rest (ended y s) budget (Made s.machine.current (argument s.machine 0))) e))
+    (rw e (ap (λ (y : Move). rest (ended y s) budget (Some (made s.machine.current (argument s.machine 0)))) e))
 by_call_lem false budget s normal e = advance_on false budget s called normal e (λ only. absurd (false≢true only))
 
 -- a step of the machine is one of the burst, where the rest of the budget is the rest of the burst

@@ -1,13 +1,13 @@
 -- One round of a run: a burst of the current guest, and then the end, or its call in the way in which the code makes it.
 -- Assumes nothing.
+use Rattle.model.specs.ToCall.{made}
+use Rattle.std.specs.Prelude.{None, Some}
 use Rattle.std.proofs.Common.{◌≡◌, ℕ, ◌<◌, ◌≤◌, Bool, true, false, List, length, get_or, set, sym, ap, ◌∙◌, arith, set-set, lt-length-set}
 use Rattle.model.specs.declared.VmId.{VmId}
 use Rattle.model.specs.declared.Registers.{Registers}
 use Rattle.model.specs.declared.Machine.{Machine}
-use Rattle.model.specs.declared.NextCall.TheVariants.{None, Made}
-use Rattle.model.specs.State.{State, state, primary, plus, register, argument, registers_at, own_registers, own_mailbox, is_normal}
-use Rattle.model.specs.State.{with_registers, with_current}
-use Rattle.model.specs.Rights.{rights}
+use Rattle.model.specs.State.{State, state, primary, plus, register, argument, registers_at, own_registers, own_mailbox, is_normal, with_registers, with_current, mailbox_at}
+use Rattle.model.specs.Rights.{rights, Rights}
 use Rattle.model.specs.Execute.{advanced}
 use Rattle.model.specs.Call.{call_effect}
 use Rattle.model.specs.Step.{with_own, hvc}
@@ -16,7 +16,7 @@ use Rattle.model.proofs.Kept.{call_keeps_sound}
 use Rattle.exec.specs.declared.instruction.Stop.{Stop}
 use Rattle.exec.specs.declared.switch.Switch.{Switch}
 use Rattle.exec.specs.declared.switch.Switch.TheVariants.{Other, Stay, Wake, To}
-use Rattle.exec.specs.Maps.{by_maps}
+use Rattle.exec.specs.Maps.{by_maps, pages_for}
 use Rattle.exec.specs.Turn.{turn, file_of}
 use Rattle.exec.specs.Burst.{Burst, burst, burst_of}
 use Rattle.exec.specs.Switch.{switched, switch_of}
@@ -24,11 +24,7 @@ use Rattle.runs.specs.Advance.{Rest, rest, advance_of, by_call, ended_by, after_
 use Rattle.exec.proofs.Bursts.{burst_rights}
 use Rattle.runs.proofs.Resumes.{own_again, resumes}
 use Rattle.runs.proofs.Effects.{switch_other, switch_stay, switch_to, switch_wake}
-use Rattle.runs.proofs.Fits.{current_file, own_same, own_fits, fit_eight, burst_fits, burst_takes, call_mode}
-use Rattle.exec.specs.Maps.{pages_for}
-use Rattle.model.specs.State.{mailbox_at}
-use Rattle.model.specs.Rights.{Rights}
-use Rattle.runs.proofs.Fits.{current_below}
+use Rattle.runs.proofs.Fits.{current_file, own_same, own_fits, fit_eight, burst_fits, burst_takes, call_mode, current_below}
 use Rattle.runs.proofs.Ready.{MapsOf, ReadyFor, ReadyNow, now_made, now_kept}
 
 -- before a burst: what is left to be run is the rest of the whole
@@ -198,7 +194,7 @@ module _ {whole : Rest} {onlyToCall : Bool} {budget : ℕ} {m : Machine} {stop :
         ∙ stopped.same
 
     -- the end, if only the way to the call is wanted
-    pub made : onlyToCall ≡ true → rest (state k last) left (Made m.current (get_or r 0 0)) ≡ whole
+    pub made : onlyToCall ≡ true → rest (state k last) left (Some (made m.current (get_or r 0 0))) ≡ whole
     unfolding after_stop with_own argument register
     made only =
         let r0 : get_or r 0 0 ≡ argument (with_file m r pc equal) 0 =

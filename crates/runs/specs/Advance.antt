@@ -1,5 +1,7 @@
 -- Steps up to the end of a budget, or to the next call, with what is left of the budget.
-use Rattle.std.specs.Prelude.{ℕ, zero, suc, Bool, true, false, List}
+use Rattle.model.specs.ToCall.{made, calls_next}
+use Rattle.std.specs.Prelude.{ℕ, zero, suc, Bool, true, false, List, Option, None, Some}
+use Rattle.model.specs.declared.MadeCall.{MadeCall}
 use Rattle.isa.specs.Tests.{◌and◌}
 use Rattle.runs.specs.declared.Advanced.{Advanced}
 use Rattle.model.specs.declared.VmId.{VmId}
@@ -9,20 +11,17 @@ use Rattle.model.specs.declared.Mode.TheVariants as mode
 use Rattle.exec.specs.declared.instruction.Stop.{Stop}
 use Rattle.exec.specs.declared.instruction.Stop.TheVariants.{Moved, Called, Faulted, Halted}
 use Rattle.model.specs.Constants.{YIELD}
-use Rattle.model.specs.declared.NextCall.{NextCall}
-use Rattle.model.specs.declared.NextCall.TheVariants.{None, Made}
 use Rattle.model.specs.State.{State, state, argument, is_normal, with_mode, with_register}
 use Rattle.model.specs.Step.{with_own, hvc, step_effect}
 use Rattle.exec.specs.Burst.{Burst}
-use Rattle.model.specs.ToCall.{calls_next}
 
 -- where the steps came to, what is left of the budget, and the call that ended them
 pub record Rest : Type 0 where
   pub reached : State
   pub left : ℕ
-  pub call : NextCall
+  pub call : Option MadeCall
 
-abbrev pub rest : State → ℕ → NextCall → Rest
+abbrev pub rest : State → ℕ → Option MadeCall → Rest
 rest s left call = record { reached = s; left = left; call = call }
 
 -- the same, of the code's own struct and the memory
@@ -36,7 +35,7 @@ advance_of onlyToCall (suc budget) s =
     elim (is_normal s.machine.mode) [
       | true ↦
           elim (onlyToCall and calls_next s) [
-            | true ↦ rest (step_effect s) budget (Made s.machine.current (argument s.machine 0))
+            | true ↦ rest (step_effect s) budget (Some (made s.machine.current (argument s.machine 0)))
             | false ↦ advance_of onlyToCall budget (step_effect s)
           ]
       | false ↦ rest s (suc budget) None
@@ -60,7 +59,7 @@ ended_by Halted m = with_mode m mode.Halted
 -- what follows a burst that ended so, with the guest's registers put back: the call, or the end
 unfoldable pub after_stop : Bool → Bool → Stop → State → ℕ → Rest
 after_stop onlyToCall false stop s left = rest (state (ended_by stop s.machine) s.memory) left None
-after_stop true true stop s left = rest (hvc s) left (Made s.machine.current (argument s.machine 0))
+after_stop true true stop s left = rest (hvc s) left (Some (made s.machine.current (argument s.machine 0)))
 after_stop false true stop s left = advance_of false left (hvc s)
 
 unfoldable pub after_burst : Bool → Machine → Burst → Rest

@@ -1,6 +1,9 @@
 -- A piece of a run's text: what it has so far, and what is to come behind that, is the whole. A turn adds its line, or the last
 -- line.
 -- Assumes nothing.
+use Rattle.model.specs.ToCall.{made, line_of}
+use Rattle.std.specs.Prelude.{Option, None, Some}
+use Rattle.model.specs.declared.MadeCall.{MadeCall}
 use Prim.Native.Nat.{ℕ, ◌+◌, ◌-◌, ◌≤◌, ◌<◌}
 use mathlib.Core.Path.{◌≡◌, refl, sym, ap, ◌∙◌}
 use mathlib.Core.Bool.{Bool, true, false}
@@ -10,11 +13,8 @@ use lib.ListN.{length, take, length-append}
 use lib.Seq.{take_at, length-take-le}
 use Rattle.model.specs.declared.VmId.{VmId}
 use Rattle.model.specs.declared.Machine.{Machine}
-use Rattle.model.specs.declared.NextCall.{NextCall}
-use Rattle.model.specs.declared.NextCall.TheVariants.{None, Made}
 use Rattle.model.specs.Shaped.{Shaped}
 use Rattle.model.specs.Entries.{run_of}
-use Rattle.model.specs.ToCall.{line_of}
 use Rattle.model.specs.Legs.{line_for}
 use Rattle.lines.specs.Laid.{laid_text, Laid}
 use Rattle.lines.specs.Text.{line_text, end_text}
@@ -58,10 +58,10 @@ begins budget left m memory out shaped within =
 
 module _ {whole : Rest} {budget first size left : ℕ} {m : Machine} {memory out : List ℕ} {at : ℕ}
     (putting : Putting whole budget first size left m memory out at)
-    {after : Machine} {words : List ℕ} {count : ℕ} {call : NextCall}
+    {after : Machine} {words : List ℕ} {count : ℕ} {call : Option MadeCall}
     (gone : Gone budget left (rest_of budget left m memory) after words count call) where
   -- the turn came to a call
-  pub goes_on : {g : VmId} {w : ℕ} {next : List ℕ} {end : ℕ} → call ≡ Made g w
+  pub goes_on : {g : VmId} {w : ℕ} {next : List ℕ} {end : ℕ} → call ≡ Some (made g w)
       → Laid out at (line_text (line_of (budget - (left - count)) g w after)) next end
       → Putting whole budget first size (left - count) after words next end
   unfolding line_for

@@ -1,6 +1,9 @@
 -- A turn of the bench: a run up to a call, and what is to come behind it. It takes a step if it came to a call, and is the last if
 -- it came to none.
 -- Assumes nothing.
+use Rattle.model.specs.ToCall.{made, to_call, went_to_call, run_to_call_of, Line, lines_from}
+use Rattle.std.specs.Prelude.{Option, None, Some}
+use Rattle.model.specs.declared.MadeCall.{MadeCall}
 use Prim.Native.Nat.{ℕ, zero, suc, ◌+◌, ◌-◌, ◌≤◌, ◌<◌}
 use mathlib.Core.Path.{◌≡◌, refl, sym, ap, ◌∙◌}
 use mathlib.Core.Bool.{Bool, true, false, false≢true}
@@ -10,8 +13,6 @@ use lib.ListN.{replicate}
 use Rattle.model.specs.declared.VmId.{VmId}
 use Rattle.model.specs.declared.Machine.{Machine}
 use Rattle.model.specs.declared.Answer.TheVariants.{Done}
-use Rattle.model.specs.declared.NextCall.{NextCall}
-use Rattle.model.specs.declared.NextCall.TheVariants.{None, Made}
 use Rattle.model.specs.declared.RanToCall.{RanToCall}
 use Rattle.model.specs.Constants.{GUESTS}
 use Rattle.model.specs.State.{State, state, is_normal}
@@ -21,7 +22,6 @@ use Rattle.model.specs.Entries.{check_of, went, still, steps, run_of}
 use Rattle.model.specs.Act.{step}
 use Rattle.model.specs.Kept.{Accepted}
 use Rattle.model.specs.RunSteps.{stepped}
-use Rattle.model.specs.ToCall.{to_call, went_to_call, run_to_call_of, Line, lines_from}
 use Rattle.model.specs.Legs.{EndsInCall, LegSteps, line_for}
 use Rattle.model.proofs.Acts.{went_done, went_refused, steps_off}
 use Rattle.model.proofs.Entries.{is_done_lem}
@@ -104,11 +104,11 @@ rest_over budget left s ok off =
     rest_goes budget left s ok ∙ rw (no_lines (budget - left) left s off, no_steps left s off, none)
 
 -- A turn took so many steps and came to a call, or to none: its lines, and then the rest.
-pub record Gone (budget left : ℕ) (first : Rest) (m : Machine) (memory : List ℕ) (count : ℕ) (call : NextCall) : Type 0 where
+pub record Gone (budget left : ℕ) (first : Rest) (m : Machine) (memory : List ℕ) (count : ℕ) (call : Option MadeCall) : Type 0 where
   pub taken : count ≤ left
   pub shaped : Shaped m
   pub then_rest : first ≡ behind (lines_text (line_for (budget - (left - count)) call m)) (rest_of budget (left - count) m memory)
-  pub called : (g : VmId) (w : ℕ) → call ≡ Made g w → (0 < count) × (g.0 < GUESTS)
+  pub called : (g : VmId) (w : ℕ) → call ≡ Some (made g w) → (0 < count) × (g.0 < GUESTS)
   pub last : call ≡ None → rest_of budget (left - count) m memory ≡ last_line (budget - (left - count)) m
 
 module _ (budget left : ℕ) (within : left ≤ budget) (m : Machine) (shaped : Shaped m) (memory : List ℕ) where

@@ -1,4 +1,7 @@
 -- The rows that are laid out are those that the table asks for.
+use Rattle.std.specs.Prelude.{Option, None, Some}
+use Rattle.model.specs.declared.Deal.{Deal}
+use Rattle.model.specs.declared.VmId.{VmId}
 use Prim.Native.Nat.{ℕ, zero, suc, ◌+◌, ◌*◌, ◌/◌, ◌%◌, ◌≤◌, ◌<◌}
 use mathlib.Core.Path.{◌≡◌, refl, sym, ap, ◌∙◌}
 use mathlib.Core.Bool.{Bool, true, false}
@@ -15,11 +18,7 @@ use Rattle.isa.specs.Tests.{◌and◌}
 use Rattle.isa.proofs.Tests.{not_both, cannot_pass, and_left, and_right, and_intro, and_false_right, or_either, or_false_left, or_false_right}
 use Rattle.model.specs.declared.PageId.{PageId}
 use Rattle.model.specs.declared.Mailbox.{Mailbox}
-use Rattle.model.specs.declared.Owner.{Owner}
-use Rattle.model.specs.declared.Owner.TheVariants.{Nobody}
 use Rattle.model.specs.declared.PageRecord.{PageRecord}
-use Rattle.model.specs.declared.Life.{Life}
-use Rattle.model.specs.declared.Life.TheVariants.{Free, Live}
 use Rattle.model.specs.declared.Transaction.{Transaction}
 use Rattle.model.specs.Constants.{PAGES, HANDLES, PLACES}
 use Rattle.model.specs.Tests.{every, first}
@@ -89,7 +88,7 @@ box_puts box new =
 -- A place of a transaction, in use and spare.
 
 place_used : (t : Transaction) (i : ℕ) (rows : List PageRecord) → i < count_of t
-    → place_row t i rows ≡ set rows (page_at t i).0 (due_in t.life Nobody)
+    → place_row t i rows ≡ set rows (page_at t i).0 (due_in t.deal None)
 unfolding place_row
 place_used t i rows b = rw (lt-ltb i (count_of t) b)
 
@@ -104,7 +103,7 @@ module _ (k : ℕ) (transactions : List Transaction) (rows : List PageRecord) {n
       → set
       now
       (page_at (deal_of transactions k) (k % PLACES)).0
-      (due_in (deal_of transactions k).life Nobody)
+      (due_in (deal_of transactions k).deal None)
       ≡ held_rows (k + 1) transactions rows
   unfolding held_rows
   next_used b = sym (place_used _ _ now b) ∙ laid_more k _ rows e
@@ -114,13 +113,13 @@ module _ (k : ℕ) (transactions : List Transaction) (rows : List PageRecord) {n
   next_spare b = sym (place_spare _ _ now b) ∙ laid_more k _ rows e
 
 -- a free transaction has no pages, so the row that it would put is never seen
-used_row : (t : Transaction) (i : ℕ) (owner : Owner) → i < count_of t → due_in t.life Nobody ≡ due_in t.life owner
+used_row : (t : Transaction) (i : ℕ) (owner : Option VmId) → i < count_of t → due_in t.deal None ≡ due_in t.deal owner
 unfolding due_in count_of count_in
-used_row t i owner b = go t.life b
+used_row t i owner b = go t.deal b
   where
-    go : (life : Life) → i < count_in life → due_in life Nobody ≡ due_in life owner
-    go Free c = absurd (omega arith)
-    go (Live d) c = refl
+    go : (life : Option Deal) → i < count_in life → due_in life None ≡ due_in life owner
+    go None c = absurd (omega arith)
+    go (Some d) c = refl
 
 -- page p is at place i
 unfoldable at_place : Transaction → ℕ → PageId → Bool
@@ -134,7 +133,7 @@ held_place : (t : Transaction) (i : ℕ) (p : PageId) → i < count_of t → pag
 unfolding at_place
 held_place t i p b e = and_intro (lt-ltb i (count_of t) b) (eq_same_page e)
 
-place_puts : (t : Transaction) (i : ℕ) (owner : Owner) → Puts (at_place t i) (due_in t.life owner) (place_row t i)
+place_puts : (t : Transaction) (i : ℕ) (owner : Option VmId) → Puts (at_place t i) (due_in t.deal owner) (place_row t i)
 unfolding at_place
 place_puts t i owner =
     elim (dec_lt i (count_of t)) [
@@ -210,7 +209,7 @@ module _ (n m : ℕ) (boxes : List Mailbox) (transactions : List Transaction) (r
   placed k = at_place (deal_of transactions k) (k % PLACES)
 
   abbrev row_at : ℕ → PageRecord
-  row_at h = due_in (transaction_at transactions (handle h)).life (record_at records (page p)).owner
+  row_at h = due_in (transaction_at transactions (handle h)).deal (record_at records (page p)).owner
 
   all_put : (k : ℕ) → Puts (placed k) (row_at (k / PLACES)) (place_row (deal_of transactions k) (k % PLACES))
   all_put k = place_puts _ _ _

@@ -1,10 +1,8 @@
 -- How the records due are laid out in one pass over the pages, one over the transactions' places and one over the mailboxes.
-use Rattle.std.specs.Prelude.{ℕ, zero, suc, ◌/◌, ◌%◌, ◌≤◌, ◌<◌, ◌≡◌, true, cond, List, ltb, set}
+use Rattle.std.specs.Prelude.{ℕ, zero, suc, ◌/◌, ◌%◌, ◌≤◌, ◌<◌, ◌≡◌, true, cond, List, ltb, set, None, Some}
 use Rattle.model.specs.declared.Mailbox.{Mailbox}
-use Rattle.model.specs.declared.Owner.TheVariants.{Nobody}
 use Rattle.model.specs.declared.PageRecord.{PageRecord}
 use Rattle.model.specs.declared.Deal.{Deal}
-use Rattle.model.specs.declared.Life.TheVariants.{Live}
 use Rattle.model.specs.declared.Transaction.{Transaction}
 use Rattle.model.specs.Constants.{GUESTS, PAGES, PLACES}
 use Rattle.model.specs.Tests.{set_each}
@@ -20,11 +18,11 @@ free_rows m records = set_each m (λ p. p) (λ p. free_row (record_at records (p
 
 -- place i of a transaction: if it is in use, its page gets the transaction's row
 unfoldable pub place_row : Transaction → ℕ → List PageRecord → List PageRecord
-place_row t i rows = cond (ltb i (count_of t)) (set rows (page_at t i).0 (due_in t.life Nobody)) rows
+place_row t i rows = cond (ltb i (count_of t)) (set rows (page_at t i).0 (due_in t.deal None)) rows
 
 -- a transaction whose row can be made and its pages reached
 pub record Held (t : Transaction) : Type 0 where
-  pub parties : (d : Deal) → t.life ≡ Live d → (d.sender.0 < GUESTS) × (d.receiver.0 < GUESTS)
+  pub parties : (d : Deal) → t.deal ≡ Some d → (d.sender.0 < GUESTS) × (d.receiver.0 < GUESTS)
   pub reached : Reached t
 
 -- the two pages of a mailbox get a row

@@ -7,7 +7,7 @@ use Rattle.offers.proofs.sending.lowest_free.Given as goal
 
 abbrev pub invariant-loop-h : goal.invariant-loop-h
 invariant-loop-h l =
-    (l.h ≤ HANDLES) × ((k : ℕ) → k < l.h → is_free (transaction_at l.transactions (handle k)).life ≡ false)
+    (l.h ≤ HANDLES) × ((k : ℕ) → k < l.h → is_free (transaction_at l.transactions (handle k)).deal ≡ false)
 
 abbrev pub decreases-loop-h : goal.decreases-loop-h
 decreases-loop-h l = HANDLES - l.h

@@ -12,7 +12,7 @@ use Rattle.parts.proofs.Loops.{every_listed}
 use Rattle.sound.proofs.counts.page_counts_in_range.Goals as goal
 
 abbrev in_range : Transaction → Bool
-in_range t = if_live t.life (λ d. leb 1 d.count and leb d.count PLACES)
+in_range t = if_live t.deal (λ d. leb 1 d.count and leb d.count PLACES)
 
 pub returns : goal.returns
 unfolding page_counts_in_range each_deal transaction_at

@@ -9,7 +9,7 @@ use Rattle.model.specs.Tests.{every}
 use Rattle.sound.proofs.deals.no_donation_retrieved.Given as goal
 
 abbrev pub invariant-loop-h : goal.invariant-loop-h
-invariant-loop-h l = (l.h ≤ HANDLES) × (every l.h (λ k. if_live (transaction_at l.transactions (handle k)).life (λ d. not (donates d.kind and d.retrieved))) ≡ true)
+invariant-loop-h l = (l.h ≤ HANDLES) × (every l.h (λ k. if_live (transaction_at l.transactions (handle k)).deal (λ d. not (donates d.kind and d.retrieved))) ≡ true)
 
 abbrev pub decreases-loop-h : goal.decreases-loop-h
 decreases-loop-h l = HANDLES - l.h

@@ -7,7 +7,7 @@ use Rattle.model.specs.Tests.{every}
 use Rattle.sound.proofs.deals.parties_differ.Given as goal
 
 abbrev pub invariant-loop-h : goal.invariant-loop-h
-invariant-loop-h l = (l.h ≤ HANDLES) × (every l.h (λ k. if_live (transaction_at l.transactions (handle k)).life (λ d. not (same_vm d.sender d.receiver))) ≡ true)
+invariant-loop-h l = (l.h ≤ HANDLES) × (every l.h (λ k. if_live (transaction_at l.transactions (handle k)).deal (λ d. not (same_vm d.sender d.receiver))) ≡ true)
 
 abbrev pub decreases-loop-h : goal.decreases-loop-h
 decreases-loop-h l = HANDLES - l.h
