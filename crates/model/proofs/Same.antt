@@ -1,7 +1,9 @@
 -- The tests for equality are equality: of guests, pages, sets of guests, owners and page records.
 use Rattle.std.specs.Prelude.{Option, None, Some}
+use Rattle.std.specs.Option.{option_eq}
+use lib.Dec.{eqb}
 use mathlib.Core.Path.{◌≡◌, refl, ap}
-use mathlib.Core.Bool.{true, false≢true}
+use mathlib.Core.Bool.{true, false≢true, beq, ◌&&◌}
 use borrow.Author.Tests.{eqb-true, eq-eqb}
 use Rattle.model.specs.declared.VmId.{VmId}
 use Rattle.model.specs.declared.PageId.{PageId}
@@ -11,7 +13,7 @@ use Rattle.model.specs.State.{vm, page, same_vm, same_page}
 use Rattle.model.specs.VmSet.{same_set}
 use Rattle.model.specs.Row.{same_owner, same_record}
 use Rattle.isa.proofs.Tests.{and_left, and_right, and_intro}
-use Rattle.model.proofs.Tests.{agree_true, eq_agree}
+use Rattle.model.proofs.Tests.{agree_true, eq_agree, beq_agree, both_and}
 
 pub same_vm_true : (g k : VmId) → same_vm g k ≡ true → g ≡ k
 unfolding same_vm
@@ -64,3 +66,17 @@ pub eq_same_record : {a b : PageRecord} → a ≡ b → same_record a b ≡ true
 unfolding same_record
 eq_same_record p =
     and_intro (eq_same_owner (λ i. (p i).owner)) (and_intro (eq_same_set (λ i. (p i).access)) (eq_agree (λ i. (p i).exclusive)))
+
+-- What the code's derived comparison of two records computes is the test.
+
+compared_owners : (a b : Option VmId) → option_eq (λ (g k : VmId). eqb g.0 k.0) a b ≡ same_owner a b
+unfolding same_owner same_vm
+compared_owners None None = refl
+compared_owners None (Some k) = refl
+compared_owners (Some g) None = refl
+compared_owners (Some g) (Some k) = refl
+
+pub compared_records : (a b : PageRecord)
+    → (option_eq (λ (g k : VmId). eqb g.0 k.0) a.owner b.owner && (eqb a.access.0 b.access.0 && beq a.exclusive b.exclusive)) ≡ same_record a b
+unfolding same_record same_set
+compared_records a b = rw (compared_owners a.owner b.owner, beq_agree a.exclusive b.exclusive, both_and, both_and)

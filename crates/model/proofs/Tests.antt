@@ -1,7 +1,7 @@
 -- The laws of the tests and changes over numbers: what each tells where it passes or fails, and how to make it pass.
 use Prim.Native.Nat.{ℕ, zero, suc, ◌≤◌, ◌<◌}
 use mathlib.Core.Path.{◌≡◌, refl, sym, ap, ◌∙◌}
-use mathlib.Core.Bool.{Bool, true, false, cond, false≢true, beq}
+use mathlib.Core.Bool.{Bool, true, false, cond, false≢true, beq, ◌&&◌}
 use mathlib.Core.List.{List}
 use mathlib.Core.Logic.{◌⊎◌, inl, inr}
 use native.Mathlib.Nat.{eq-or-lt_of_le, le_of_suc-le-suc}
@@ -12,6 +12,7 @@ use lib.Seq.{get_or-set_same, get_or-set_other}
 use lib.Dec.{ltb}
 use borrow.Author.Tests.{ltb-true, ltb-false, lt-ltb}
 use Rattle.isa.proofs.Tests.{and_intro, and_left, and_right, not_both, or_else, or_left, or_right}
+use Rattle.isa.specs.Tests.{◌and◌}
 use Rattle.model.specs.Tests.{agree, every, some, or_next, first, ascending, set_each, listed}
 
 -- Agreement.
@@ -35,6 +36,12 @@ beq_agree true true = refl
 beq_agree true false = refl
 beq_agree false true = refl
 beq_agree false false = refl
+
+-- the code's `&&`, which its derived comparisons use, is our `and`
+pub both_and : (a b : Bool) → (a && b) ≡ (a and b)
+unfolding ◌and◌
+both_and true b = refl
+both_and false b = refl
 
 -- tests of which each passes where the other does agree
 pub same_test : (a b : Bool) → (a ≡ true → b ≡ true) → (b ≡ true → a ≡ true) → a ≡ b

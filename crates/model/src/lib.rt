@@ -6,20 +6,24 @@
 
 #![tactic(auto)]
 
+ghost use Rattle.std.specs.Prelude.{◌≡◌};
+ghost use Rattle.model.specs.Row.{kind_number};
+ghost use Rattle.model.specs.Answer.{answer_number};
+
 // The number of a guest. Numbers of guests, pages and handles are kept apart: none stands where another is due.
-#[derive(Clone, Copy)]
+#[derive(Clone, Copy, PartialEq, Eq)]
 pub struct VmId(pub u8);
 
 // The number of a page.
-#[derive(Clone, Copy)]
+#[derive(Clone, Copy, PartialEq, Eq)]
 pub struct PageId(pub u8);
 
 // The number that a transaction is known by.
-#[derive(Clone, Copy)]
+#[derive(Clone, Copy, PartialEq, Eq)]
 pub struct Handle(pub u8);
 
 // A set of guests: bit g is set if guest g is in it.
-#[derive(Clone, Copy)]
+#[derive(Clone, Copy, PartialEq, Eq)]
 pub struct VmSet(pub u8);
 
 // A guest's register file.
@@ -46,7 +50,7 @@ pub struct Message {
 
 // What the machine keeps of a page: its owner, if it has one, which lending and sharing leave; who has access; and whether that
 // is nobody else.
-#[derive(Clone, Copy)]
+#[derive(Clone, Copy, PartialEq, Eq)]
 pub struct PageRecord {
     pub owner: Option<VmId>,
     pub access: VmSet,
@@ -54,11 +58,25 @@ pub struct PageRecord {
 }
 
 // How pages are sent.
-#[derive(Clone, Copy)]
+#[derive(Clone, Copy, PartialEq, Eq)]
 pub enum Kind {
     Donate,
     Lend,
     Share,
+}
+
+// The number of a kind in a descriptor.
+impl From<Kind> for u32 {
+    ghost from_gives = { λ kind number. number ≡ kind_number kind };
+
+    #[tactic(auto, unfolding(crate::specs::Row::kind_number))]
+    fn from(kind: Kind) -> u32 {
+        match kind {
+            Kind::Donate => 1,
+            Kind::Lend => 2,
+            Kind::Share => 3,
+        }
+    }
 }
 
 // A live transaction, but for its pages.
@@ -80,7 +98,7 @@ pub struct Transaction {
 }
 
 // Whether the machine goes on. Only a normal one takes a step or a call.
-#[derive(Clone, Copy)]
+#[derive(Clone, Copy, PartialEq, Eq)]
 pub enum Mode {
     Normal,
     Fault,
@@ -102,7 +120,7 @@ pub struct Machine {
 }
 
 // What the access check says of an address.
-#[derive(Clone, Copy)]
+#[derive(Clone, Copy, PartialEq, Eq)]
 pub enum Access {
     Allowed,
     Outside,
@@ -111,13 +129,29 @@ pub enum Access {
 }
 
 // What an entry answers, apart from decoding and encoding; `specs/Answer.antt` has the numbers.
-#[derive(Clone, Copy)]
+#[derive(Clone, Copy, PartialEq, Eq)]
 pub enum Answer {
     Done,
     WrongMemory,
     Unsound,
     Stopped,
     BrokenImage,
+}
+
+// The number of an answer.
+impl From<Answer> for u32 {
+    ghost from_gives = { λ answer number. number ≡ answer_number answer };
+
+    #[tactic(auto, unfolding(crate::specs::Answer::answer_number))]
+    fn from(answer: Answer) -> u32 {
+        match answer {
+            Answer::Done => 0,
+            Answer::WrongMemory => 1,
+            Answer::Unsound => 2,
+            Answer::Stopped => 3,
+            Answer::BrokenImage => 4,
+        }
+    }
 }
 
 // What a step and a call give back.

@@ -7,16 +7,14 @@ use mathlib.Core.List.{List}
 use native.Mathlib.Nat.{le_antisymm, le_of_suc-le}
 use native.Mathlib.Numerals.{add-one}
 use lib.ListN.{set, length, take, get_or}
-
 use Rattle.std.specs.List.{list_all}
 use Rattle.std.proofs.lemmas.List.{take_all}
 use Rattle.std.proofs.lemmas.List.Folds.{list_all_more}
 use Rattle.std.proofs.Math.Nat.{le_of_eq}
 use Rattle.std.specs.Prelude.{◌&&◌}
-use Rattle.isa.specs.Tests.{◌and◌}
 use Rattle.isa.proofs.Tests.{not_both, cannot_pass, and_intro}
 use Rattle.model.specs.Tests.{every, set_each}
-use Rattle.model.proofs.Tests.{every_at}
+use Rattle.model.proofs.Tests.{every_at, both_and}
 
 -- Every number below n passes the test: it begins, it goes on past i, it stops at i, it has come to the end.
 
@@ -62,11 +60,6 @@ set_whole place value l h b e = rw (le_antisymm b h) e
 
 -- A list asked by number below n, or its first n elements one after the other.
 
-same_test : (a b : Bool) → (a && b) ≡ (a and b)
-unfolding ◌and◌
-same_test true b = refl
-same_test false b = refl
-
 pub every_taken : {A : Type 0} (d : A) (p : A → Bool) (xs : List A) (n : ℕ) → n ≤ length xs
     → list_all p (take n xs) ≡ every n (λ k. p (get_or xs k d))
 unfolding every
@@ -74,7 +67,7 @@ every_taken d p xs zero h = refl
 every_taken d p xs (suc n) h =
     let on = every_taken d p xs n (le_of_suc-le h) in
     let more : list_all p (take (n + 1) xs) ≡ (list_all p (take n xs) && p (get_or xs n d)) = list_all_more p xs n d (omega arith) in
-    rw (← add-one n, more, on) (same_test _ _)
+    rw (← add-one n, more, on) (both_and _ _)
 
 -- all of them
 pub every_listed : {A : Type 0} (d : A) (p : A → Bool) (xs : List A) {n : ℕ} → length xs ≡ n

@@ -1,4 +1,4 @@
-// The numbers of the calls, of the answers in R0 and of the errors in R2.
+// The numbers of the calls, and of the answers in R0. Those of the errors in R2 are in `refusal`.
 
 pub const ERROR: u32 = 0x84000060;
 
@@ -25,18 +25,3 @@ pub const RETRIEVE: u32 = 0x84000074;
 pub const RELINQUISH: u32 = 0x84000076;
 
 pub const RECLAIM: u32 = 0x84000077;
-
-// An error's code, which is below zero, modulo 2^32.
-pub const NOT_SUPPORTED: u32 = 0xFFFFFFFF;
-
-pub const INVALID: u32 = 0xFFFFFFFE;
-
-pub const NO_MEMORY: u32 = 0xFFFFFFFD;
-
-pub const BUSY: u32 = 0xFFFFFFFC;
-
-pub const DENIED: u32 = 0xFFFFFFFA;
-
-pub const ABORTED: u32 = 0xFFFFFFF8;
-
-pub const NO_DATA: u32 = 0xFFFFFFF7;

@@ -4,66 +4,53 @@ ghost use Rattle.std.specs.Prelude.{◌≡◌, ◌<◌};
 ghost use Rattle.model.specs.Constants.{GUESTS};
 ghost use Rattle.model.specs.State.{mailbox_at, inbox_at, with_inbox, is_empty, length_of, sender_of};
 
-use model::{Inbox, InboxSlot, Mailbox, VmId};
+use model::{Mailbox, Message, VmId};
 
 // What waits for guest g.
 #[tactic(auto, unfolding(model::specs::State::inbox_at))]
-pub fn inbox_at(slots: [InboxSlot; 8], g: VmId) -> Inbox
+pub fn inbox_at(slots: [Option<Message>; 8], g: VmId) -> Option<Message>
     requires { g.0 < GUESTS }
     ensures { result ≡ inbox_at slots g }
 {
-    let at = g.0 as usize;
-    let slot = slots[at];
-    let inbox = slot.inbox;
-    inbox
+    slots[g.0 as usize]
 }
 
 // The inboxes with a new one for guest g.
-pub fn with_inbox(slots: [InboxSlot; 8], g: VmId, inbox: Inbox) -> [InboxSlot; 8]
+pub fn with_inbox(
+    slots: [Option<Message>; 8],
+    g: VmId,
+    inbox: Option<Message>,
+) -> [Option<Message>; 8]
     requires { g.0 < GUESTS }
     ensures { result ≡ with_inbox slots g inbox }
 {
-    let at = g.0 as usize;
-    let slot = InboxSlot { inbox: inbox };
     let mut all = slots;
-    all[at] = slot;
+    all[g.0 as usize] = inbox;
     all
 }
 
 // Whether nothing waits.
 #[tactic(auto, unfolding(model::specs::State::is_empty))]
-pub fn is_empty(inbox: Inbox) -> bool
+pub fn is_empty(inbox: Option<Message>) -> bool
     ensures { result ≡ is_empty inbox }
 {
-    match inbox {
-        Inbox::Empty => true,
-        Inbox::Full {
-            length: _,
-            sender: _,
-        } => false,
-    }
+    inbox.is_none()
 }
 
 // How many words wait; none in an empty inbox.
 #[tactic(auto, unfolding(model::specs::State::length_of))]
-pub fn length_of(inbox: Inbox) -> u32
+pub fn length_of(inbox: Option<Message>) -> u32
     ensures { result ≡ length_of inbox }
 {
-    match inbox {
-        Inbox::Empty => 0,
-        Inbox::Full { length, sender: _ } => length,
-    }
+    inbox.map_or(0, |message| message.length)
 }
 
 // The sender; guest 0 of an empty inbox.
 #[tactic(auto, unfolding(model::specs::State::sender_of))]
-pub fn sender_of(inbox: Inbox) -> VmId
+pub fn sender_of(inbox: Option<Message>) -> VmId
     ensures { result ≡ sender_of inbox }
 {
-    match inbox {
-        Inbox::Empty => VmId(0),
-        Inbox::Full { length: _, sender } => sender,
-    }
+    inbox.map_or(VmId(0), |message| message.sender)
 }
 
 // The mailbox pages of guest g.
@@ -72,6 +59,5 @@ pub fn mailbox_at(boxes: [Mailbox; 8], g: VmId) -> Mailbox
     requires { g.0 < GUESTS }
     ensures { result ≡ mailbox_at boxes g }
 {
-    let at = g.0 as usize;
-    boxes[at]
+    boxes[g.0 as usize]
 }

@@ -13,34 +13,28 @@ pub mod codes;
 pub mod inboxes;
 pub mod numbers;
 pub mod pages;
+mod refusal;
 pub mod registers;
 pub mod reply;
 
 ghost use Rattle.std.specs.Prelude.{◌≡◌, ◌<◌, ltb, true};
 ghost use Rattle.model.specs.Constants.{GUESTS};
-ghost use Rattle.model.specs.State.{same_vm, is_primary};
+ghost use Rattle.model.specs.State.{is_primary};
 ghost use Rattle.model.specs.VmSet.{has, only, with};
-ghost use Rattle.model.specs.Row.{kind_number, shares, donates, sends, receives, holders, mailbox_row, owned_row, free_row, row, same_owner, same_record};
+ghost use Rattle.model.specs.Row.{shares, donates, sends, receives, holders, mailbox_row, owned_row, free_row, row, same_record};
 ghost use Rattle.model.specs.Sound.{if_owned};
 
-use model::{Deal, Kind, Owner, PageRecord, VmId, VmSet};
+use model::{Deal, Kind, PageRecord, VmId, VmSet};
+pub use refusal::Refusal;
 
 // Numbers of guests.
-
-// Whether the two are one guest.
-#[tactic(auto, unfolding(model::specs::State::same_vm))]
-pub fn same_vm(g: VmId, k: VmId) -> bool
-    ensures { result ≡ same_vm g k }
-{
-    g.0 == k.0
-}
 
 // Whether g is guest 0.
 #[tactic(auto, unfolding(model::specs::State::is_primary, model::specs::State::same_vm))]
 pub fn is_primary(g: VmId) -> bool
     ensures { result ≡ is_primary g }
 {
-    g.0 == 0
+    g == VmId(0)
 }
 
 // Sets of guests.
@@ -70,35 +64,20 @@ pub fn with(g: VmId, set: VmSet) -> VmSet
     ensures { result ≡ with g set }
 {
     if has(g, set) {
-        return set;
+        set
+    } else {
+        VmSet(set.0 + only(g).0)
     }
-    VmSet(set.0 + only(g).0)
 }
 
 // Kinds.
-
-// The number of a kind in a descriptor.
-#[tactic(auto, unfolding(model::specs::Row::kind_number))]
-pub fn kind_number(kind: Kind) -> u32
-    ensures { result ≡ kind_number kind }
-{
-    match kind {
-        Kind::Donate => 1,
-        Kind::Lend => 2,
-        Kind::Share => 3,
-    }
-}
 
 // Whether the sender keeps its access.
 #[tactic(auto, unfolding(model::specs::Row::shares))]
 pub fn shares(kind: Kind) -> bool
     ensures { result ≡ shares kind }
 {
-    match kind {
-        Kind::Donate => false,
-        Kind::Lend => false,
-        Kind::Share => true,
-    }
+    kind == Kind::Share
 }
 
 // Whether the pages change their owner at the retrieve.
@@ -106,29 +85,25 @@ pub fn shares(kind: Kind) -> bool
 pub fn donates(kind: Kind) -> bool
     ensures { result ≡ donates kind }
 {
-    match kind {
-        Kind::Donate => true,
-        Kind::Lend => false,
-        Kind::Share => false,
-    }
+    kind == Kind::Donate
 }
 
 // Parties of a transaction.
 
 // Whether g is the sender.
-#[tactic(auto, unfolding(model::specs::Row::sends))]
+#[tactic(auto, unfolding(model::specs::Row::sends, model::specs::State::same_vm))]
 pub fn sends(d: Deal, g: VmId) -> bool
     ensures { result ≡ sends d g }
 {
-    same_vm(d.sender, g)
+    d.sender == g
 }
 
 // Whether g is the receiver.
-#[tactic(auto, unfolding(model::specs::Row::receives))]
+#[tactic(auto, unfolding(model::specs::Row::receives, model::specs::State::same_vm))]
 pub fn receives(d: Deal, g: VmId) -> bool
     ensures { result ≡ receives d g }
 {
-    same_vm(d.receiver, g)
+    d.receiver == g
 }
 
 // Those to whom a transaction's pages have gone.
@@ -153,7 +128,7 @@ pub fn mailbox_row(g: VmId) -> PageRecord
     ensures { result ≡ mailbox_row g }
 {
     PageRecord {
-        owner: Owner::Nobody,
+        owner: None,
         access: only(g),
         exclusive: true,
     }
@@ -161,14 +136,14 @@ pub fn mailbox_row(g: VmId) -> PageRecord
 
 // A page in no transaction: its owner's, or spare.
 #[tactic(auto, unfolding(model::specs::Row::free_row))]
-pub fn free_row(owner: Owner) -> PageRecord
+pub fn free_row(owner: Option<VmId>) -> PageRecord
     requires { if_owned owner (λ g. ltb g.0 GUESTS) ≡ true }
     ensures { result ≡ free_row owner }
 {
     match owner {
-        Owner::Guest(g) => owned_row(g),
-        Owner::Nobody => PageRecord {
-            owner: Owner::Nobody,
+        Some(g) => owned_row(g),
+        None => PageRecord {
+            owner: None,
             access: VmSet(0),
             exclusive: false,
         },
@@ -182,7 +157,7 @@ pub fn owned_row(g: VmId) -> PageRecord
     ensures { result ≡ owned_row g }
 {
     PageRecord {
-        owner: Owner::Guest(g),
+        owner: Some(g),
         access: only(g),
         exclusive: true,
     }
@@ -194,47 +169,17 @@ pub fn row(d: Deal) -> PageRecord
     ensures { result ≡ row d }
 {
     let held = holders(d);
-    let kind = d.kind;
-    let sender = d.sender;
-    if shares(kind) {
-        return PageRecord {
-            owner: Owner::Guest(sender),
-            access: with(sender, held),
-            exclusive: false,
-        };
-    }
+    let shared = shares(d.kind);
     PageRecord {
-        owner: Owner::Guest(sender),
-        access: held,
-        exclusive: true,
+        owner: Some(d.sender),
+        access: if shared { with(d.sender, held) } else { held },
+        exclusive: !shared,
     }
 }
 
-// Whether two records are the same.
-
-// Whether the two pages have one owner, or both have none.
-#[tactic(auto, unfolding(model::specs::Row::same_owner))]
-pub fn same_owner(a: Owner, b: Owner) -> bool
-    ensures { result ≡ same_owner a b }
-{
-    match a {
-        Owner::Nobody => match b {
-            Owner::Nobody => true,
-            Owner::Guest(_) => false,
-        },
-        Owner::Guest(g) => match b {
-            Owner::Nobody => false,
-            Owner::Guest(k) => same_vm(g, k),
-        },
-    }
-}
-
-// Whether owner, access and mark are all the same; `&` tests each, with no branch.
-#[tactic(auto, unfolding(model::specs::Row::same_record, model::specs::VmSet::same_set))]
+// Whether two records are the same: owner, access and mark.
 pub fn same_record(a: PageRecord, b: PageRecord) -> bool
     ensures { result ≡ same_record a b }
 {
-    let a_owner = a.owner;
-    let b_owner = b.owner;
-    same_owner(a_owner, b_owner) & ((a.access.0 == b.access.0) & (a.exclusive == b.exclusive))
+    a == b
 }

@@ -6,38 +6,26 @@ ghost use Rattle.parts.specs.Numbers.{vm_of, page_at_base};
 
 use model::{PageId, VmId};
 
-// The guest that a word names, if it names one.
-#[derive(Clone, Copy)]
-pub enum SomeVm {
-    Nobody,
-    Vm(VmId),
-}
-
-// The page that starts at an address, if one does.
-#[derive(Clone, Copy)]
-pub enum SomePage {
-    Nowhere,
-    Page(PageId),
-}
-
-// The guest of this number, of n.
-pub fn vm_of(w: u32, n: u8) -> SomeVm
+// The guest of this number, of n, if there is one.
+pub fn vm_of(w: u32, n: u8) -> Option<VmId>
     ensures { result ≡ vm_of w n }
 {
     if w < n as u32 {
-        return SomeVm::Vm(VmId(w as u8));
+        Some(VmId(w as u8))
+    } else {
+        None
     }
-    SomeVm::Nobody
 }
 
-// The page that starts at this address, of m.
+// The page that starts at this address, of m, if one does.
 #[tactic(auto, unfolding(model::specs::Sending::is_base, crate::specs::Numbers::page_at_base))]
-pub fn page_at_base(x: u32, m: u8) -> SomePage
+pub fn page_at_base(x: u32, m: u8) -> Option<PageId>
     ensures { result ≡ page_at_base x m }
 {
     let p = x / 1024;
     if (x % 1024 == 0) & (p < m as u32) {
-        return SomePage::Page(PageId(p as u8));
+        Some(PageId(p as u8))
+    } else {
+        None
     }
-    SomePage::Nowhere
 }

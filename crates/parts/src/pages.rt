@@ -8,18 +8,14 @@ ghost use Rattle.model.specs.Row.{same_record};
 ghost use Rattle.model.specs.Deeds.{recorded};
 ghost use Rattle.parts.specs.Reached.{Reached};
 
-use model::{Life, PageId, PageRecord, Transaction};
+use model::{PageId, PageRecord, Transaction};
 
 // How many pages a transaction has: a free one has none.
 #[tactic(auto, unfolding(model::specs::State::count_in, model::specs::State::count_of))]
 pub fn count_of(t: Transaction) -> u8
     ensures { result ≡ count_of t }
 {
-    let life = t.life;
-    match life {
-        Life::Free => 0,
-        Life::Live(d) => d.count,
-    }
+    t.deal.map_or(0, |d| d.count)
 }
 
 // The records with a new one at each page of the transaction.

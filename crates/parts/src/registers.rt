@@ -12,9 +12,7 @@ pub fn register(files: [Registers; 8], g: VmId, i: usize) -> u32
     requires { (g.0 < GUESTS) × (i < 8) }
     ensures { result ≡ register (registers_at files g) i }
 {
-    let at = g.0 as usize;
-    let file = files[at];
-    file.r[i]
+    files[g.0 as usize].r[i]
 }
 
 // The files with v in register i of guest g.
@@ -23,10 +21,7 @@ pub fn written(files: [Registers; 8], g: VmId, i: usize, v: u32) -> [Registers; 
     requires { (g.0 < GUESTS) × (i < 8) }
     ensures { result ≡ written files g i v }
 {
-    let at = g.0 as usize;
-    let mut file = files[at];
-    file.r[i] = v;
     let mut all = files;
-    all[at] = file;
+    all[g.0 as usize].r[i] = v;
     all
 }

@@ -4,8 +4,9 @@ ghost use Rattle.std.specs.Prelude.{◌≡◌, ◌<◌};
 ghost use Rattle.model.specs.Constants.{GUESTS};
 ghost use Rattle.model.specs.State.{argument};
 ghost use Rattle.model.specs.Reply.{with_error, succeeded, handed_over};
+ghost use Rattle.parts.specs.Refusal.{code_of};
 
-use crate::{codes, registers};
+use crate::{Refusal, codes, registers};
 use model::{Machine, VmId};
 
 // A register of the caller.
@@ -14,23 +15,21 @@ pub fn argument(machine: Machine, i: usize) -> u32
     requires { (machine.current.0 < GUESTS) × (i < 8) }
     ensures { result ≡ argument machine i }
 {
-    let files = machine.registers;
-    let caller = machine.current;
-    registers::register(files, caller, i)
+    registers::register(machine.registers, machine.current, i)
 }
 
 // An error: R0 and R2 of the caller, and nothing else.
-pub fn with_error(machine: Machine, code: u32) -> Machine
+pub fn with_error(machine: Machine, refusal: Refusal) -> Machine
     requires { machine.current.0 < GUESTS }
-    ensures { result ≡ with_error machine code }
+    ensures { result ≡ with_error machine (code_of refusal) }
 {
-    let files = machine.registers;
     let caller = machine.current;
-    let told = registers::written(files, caller, 0, codes::ERROR);
-    let all = registers::written(told, caller, 2, code);
-    let mut next = machine;
-    next.registers = all;
-    next
+    let told = registers::written(machine.registers, caller, 0, codes::ERROR);
+    let registers = registers::written(told, caller, 2, refusal.into());
+    Machine {
+        registers,
+        ..machine
+    }
 }
 
 // Success in the caller's R0.
@@ -39,12 +38,11 @@ pub fn succeeded(machine: Machine) -> Machine
     requires { machine.current.0 < GUESTS }
     ensures { result ≡ succeeded machine }
 {
-    let files = machine.registers;
-    let caller = machine.current;
-    let all = registers::written(files, caller, 0, codes::SUCCESS);
-    let mut next = machine;
-    next.registers = all;
-    next
+    let registers = registers::written(machine.registers, machine.current, 0, codes::SUCCESS);
+    Machine {
+        registers,
+        ..machine
+    }
 }
 
 // Guest 0 is current. If a secondary called, guest 0's R0 says which call it was, and its R1 who called.
@@ -56,12 +54,11 @@ pub fn handed_over(machine: Machine, why: u32) -> Machine
     if crate::is_primary(caller) {
         return machine;
     }
-    let files = machine.registers;
-    let told = registers::written(files, VmId(0), 0, why);
-    let all = registers::written(told, VmId(0), 1, caller.0 as u32);
-    let mut next = machine;
-    next.registers = all;
-    let primary = VmId(0);
-    next.current = primary;
-    next
+    let told = registers::written(machine.registers, VmId(0), 0, why);
+    let registers = registers::written(told, VmId(0), 1, caller.0 as u32);
+    Machine {
+        registers,
+        current: VmId(0),
+        ..machine
+    }
 }

@@ -1,9 +1,7 @@
-use Rattle.isa.specs.Tests.{◌and◌}
-use Rattle.model.proofs.Tests.{beq_agree}
-use Rattle.model.specs.Row.{same_record}
-use Rattle.model.specs.VmSet.{same_set}
+-- `parts::same_record` meets its contract: what the derived comparison computes is the definition's test.
+use Rattle.std.proofs.Common.{◌∙◌}
+use Rattle.model.proofs.Same.{compared_records}
 use Rattle.parts.proofs.same_record.Goals as goal
 
 pub returns : goal.returns
-unfolding same_record same_set ◌and◌
-returns c = rw (c.same_owner.ensures, beq_agree c.args.a.exclusive c.args.b.exclusive)
+returns c = c.eq.ensures ∙ compared_records _ _

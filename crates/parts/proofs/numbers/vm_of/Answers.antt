@@ -4,5 +4,5 @@ use Rattle.parts.proofs.numbers.vm_of.Goals as goal
 pub returns-then-w-n : goal.returns-then-w-n
 returns-then-w-n c = vm_below _ _ c.if-w-n.true
 
-pub returns : goal.returns
-returns c = vm_beyond _ _ c.if-w-n.false
+pub returns-else-w-n : goal.returns-else-w-n
+returns-else-w-n c = vm_beyond _ _ c.if-w-n.false

@@ -12,4 +12,4 @@ returns c =
     handed_secondary _ _
     (sym c.is_primary.ensures ∙ c.if-is_primary.false)
     c.written-told.ensures
-    c.written-all.ensures
+    c.written-registers.ensures
