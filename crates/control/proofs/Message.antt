@@ -1,4 +1,4 @@
--- What the proofs of a message share: the loops that copy words, the page that is lent to the copier, and the ways out of Send.
+-- What the proofs of a message share: the words that are copied, the page that is lent to the copier, and the ways out of Send.
 use Rattle.model.specs.State.{message, state, same_vm, primary, is_primary, argument, written, with_registers, mailbox_at, own_mailbox, inbox_at, is_empty, with_inbox, with_inboxes}
 use Rattle.std.specs.Prelude.{Option, Some}
 use Rattle.model.specs.declared.Message.{Message}
@@ -6,11 +6,9 @@ use Prim.Native.Nat.{ℕ, ◌+◌, ◌*◌, ◌-◌, ◌≤◌, ◌<◌}
 use mathlib.Core.Path.{◌≡◌, refl, ◌∙◌}
 use mathlib.Core.Bool.{Bool, true, false, not}
 use mathlib.Core.List.{List, ◌++◌, append_assoc}
-use native.Mathlib.Nat.{zero-add, le_antisymm}
-use native.Mathlib.Numerals.{add-one}
 use native.Mathlib.Omega.{arith}
-use lib.ListN.{length, get_or, set, take, drop, length-drop, take-append-drop}
-use lib.Seq.{length-take-le, take-length, drop-append-le, drop-drop, paste, paste-suc}
+use lib.ListN.{length, take, drop, length-drop, take-append-drop}
+use lib.Seq.{length-take-le, drop-append-le, drop-drop, paste}
 use borrow.Rule.Slice.PartMut.{put_mid}
 use lib.Dec.{leb}
 use borrow.Author.Tests.{ltb-true, leb-true, not-false}
@@ -29,26 +27,6 @@ use Rattle.model.specs.Sound.{sound}
 use Rattle.model.proofs.Sound.{sound_holds}
 use Rattle.parts.proofs.Named.{vm_found, no_vm}
 use Rattle.parts.proofs.Answers.{need_joined, need_fails, need_passes, refusal, success, woken_secondary}
-
--- The first i words over those of a list. A loop that lays them begins, goes on past i, has come to the end.
-
-unfoldable pub over : ℕ → List ℕ → List ℕ → List ℕ
-over i words l = take i words ++ drop i l
-
-pub over_none : (words l : List ℕ) → l ≡ over 0 words l
-unfolding over
-over_none words l = refl
-
-pub over_more : (i : ℕ) (words l : List ℕ) {now : List ℕ} → i < length words → i < length l
-    → now ≡ over i words l → set now i (get_or words i 0) ≡ over (i + 1) words l
-unfolding over
-over_more i words l hw hl e =
-    rw (add-one i, e) (simp zero-add at (paste-suc l 0 words i 0 (omega arith) hw))
-
-pub over_whole : {i : ℕ} (words l : List ℕ) {now : List ℕ} → i ≤ length words → length words ≤ i
-    → now ≡ over i words l → now ≡ words ++ drop (length words) l
-unfolding over
-over_whole words l h b e = rw (e, le_antisymm h b, take-length words)
 
 -- The words of a page, as the copier takes them: they stand at the front of its array.
 

@@ -9,11 +9,7 @@ pub fn taken(words: &[u32]) -> [u32; 1024]
     ensures { take (length words.now) result ≡ words.now }
 {
     let mut copy = [0u32; 1024];
-    let mut i: usize = 0;
-    while i < words.len() {
-        copy[i] = words[i];
-        i += 1;
-    }
+    copy[..words.len()].copy_from_slice(words);
     copy
 }
 
@@ -22,9 +18,5 @@ pub fn put(page: &mut [u32], words: &[u32])
     requires { length words.now ≤ length page.old }
     ensures { page.new ≡ words.now ++ drop (length words.now) page.old }
 {
-    let mut i: usize = 0;
-    while i < words.len() {
-        page[i] = words[i];
-        i += 1;
-    }
+    page[..words.len()].copy_from_slice(words);
 }
