@@ -6,7 +6,7 @@ use mathlib.Core.Path.{◌≡◌, refl, sym, ◌∙◌}
 use mathlib.Core.Bool.{Bool, true, false, not}
 use mathlib.Core.List.{List}
 use native.Mathlib.Omega.{arith}
-use lib.ListN.{get_or, set}
+use lib.ListN.{length, take, set}
 use borrow.Author.Tests.{lt-ltb, le-ltb}
 use Rattle.model.specs.declared.VmId.{VmId}
 use Rattle.model.specs.declared.Handle.{Handle}
@@ -14,8 +14,8 @@ use Rattle.model.specs.declared.PageRecord.{PageRecord}
 use Rattle.model.specs.declared.Deal.{Deal}
 use Rattle.model.specs.declared.Transaction.{Transaction}
 use Rattle.model.specs.declared.Machine.{Machine}
-use Rattle.model.specs.Constants.{HANDLES, INVALID, DENIED, ABORTED}
-use Rattle.model.specs.Tests.{agree, every}
+use Rattle.model.specs.Constants.{HANDLES, PLACES, INVALID, DENIED, ABORTED}
+use Rattle.model.specs.Tests.{agree}
 use Rattle.model.specs.State.{state, page, handle, record_at, transaction_at, page_at, count_in, count_of, argument, with_pages}
 use Rattle.model.specs.Row.{donates, owned_row, row, same_record}
 use Rattle.model.specs.Deeds.{settled, freed, marked, redealt, retrieved, relinquished, reclaimed, recorded}
@@ -24,7 +24,9 @@ use Rattle.model.specs.Reply.{Verdict, passes, refused, need, with_error, succee
 use Rattle.model.specs.Sound.{sound}
 use Rattle.model.proofs.Sound.{sound_holds}
 use Rattle.model.proofs.Calls.{lookup_live}
+use Rattle.std.specs.List.{list_all}
 use Rattle.handles.specs.Deeds.{Dealt}
+use Rattle.parts.proofs.Loops.{every_taken}
 use Rattle.parts.proofs.Answers.{need_fails, need_passes, refusal, success}
 
 -- Looking up.
@@ -59,10 +61,12 @@ found_dealt m h d e f =
 
 -- The pages that are looked at are those in the handle's place.
 pub in_place_read : (m : Machine) (h : Handle) (d : Deal) {t : Transaction} {count : ℕ} {due : PageRecord} {r : Bool}
-    → t ≡ transaction_at m.transactions h → count ≡ count_of t → due ≡ row d
-    → r ≡ every count (λ i. same_record (record_at m.records (get_or t.pages i (page 0))) due) → r ≡ in_place m h d
+    → Dealt m h d → length t.pages ≡ PLACES → t ≡ transaction_at m.transactions h → count ≡ count_of t → due ≡ row d
+    → r ≡ list_all (λ p. same_record (record_at m.records p) due) (take count t.pages) → r ≡ in_place m h d
 unfolding in_place page_at
-in_place_read m h d p q e f = f ∙ rw (e, q, p)
+in_place_read m h d {t} {count} {due} dealt whole p q e f =
+    let few : count ≤ length t.pages = rw (whole, q, p) dealt.reached.few in
+    f ∙ every_taken (page 0) (λ p. same_record (record_at m.records p) due) _ _ few ∙ rw (e, q, p)
 
 -- How a handle is settled, and how each deed does it.
 

@@ -33,14 +33,9 @@ pub fn settled(
     requires { (h.0 < HANDLES) × Reached t }
     ensures { result ≡ settled machine h new t due }
 {
-    let at = h.0 as usize;
-    let records = machine.records;
-    let mut transactions = machine.transactions;
-    transactions[at] = new;
-    let all = pages::recorded(records, t, due);
     let mut next = machine;
-    next.records = all;
-    next.transactions = transactions;
+    next.transactions[h.0 as usize] = new;
+    pages::recorded(&mut next.records, t, due);
     next
 }
 

@@ -50,10 +50,9 @@ fn in_place(machine: Machine, h: Handle, d: Deal) -> bool
     requires { Dealt machine h d }
     ensures { result ≡ in_place machine h d }
 {
-    let records = machine.records;
     let t = deeds::transaction_at(machine, h);
-    let held = t.pages;
-    pages::all_have(records, pages::count_of(t), held, parts::row(d))
+    let held = &t.pages[..pages::count_of(t) as usize];
+    pages::all_have(&machine.records, held, parts::row(d))
 }
 
 // The tests behind the look-up, in their order: the caller is the party that may, the retrieved mark is as it must be, and

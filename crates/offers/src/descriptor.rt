@@ -107,5 +107,5 @@ pub fn all_own(records: [PageRecord; 64], caller: VmId, count: u8, sent: [PageId
     requires { (caller.0 < GUESTS) × (count ≤ PLACES) × ((i : ℕ) → i < count → (get_or sent i (page 0)).0 < PAGES) }
     ensures { result ≡ every count (λ i. same_record (record_at records (get_or sent i (page 0))) (owned_row caller)) }
 {
-    pages::all_have(records, count, sent, parts::owned_row(caller))
+    pages::all_have(&records, &sent[..count as usize], parts::owned_row(caller))
 }

@@ -1,8 +1,8 @@
 // The pages of a transaction: how many they are, their records set alike, and whether they are alike.
 
-ghost use Rattle.std.specs.Prelude.{◌≡◌, ℕ, ◌≤◌, ◌<◌, get_or};
-ghost use Rattle.model.specs.Constants.{PAGES, PLACES};
-ghost use Rattle.model.specs.Tests.{every};
+ghost use Rattle.std.specs.Prelude.{◌≡◌, ℕ, ◌<◌, get_or, length};
+ghost use Rattle.std.specs.List.{list_all};
+ghost use Rattle.model.specs.Constants.{PAGES};
 ghost use Rattle.model.specs.State.{page, record_at, count_of};
 ghost use Rattle.model.specs.Row.{same_record};
 ghost use Rattle.model.specs.Deeds.{recorded};
@@ -18,38 +18,24 @@ pub fn count_of(t: Transaction) -> u8
     t.deal.map_or(0, |d| d.count)
 }
 
-// The records with a new one at each page of the transaction.
+// A new record at each page of the transaction.
 #[tactic(auto, unfolding(model::specs::State::page_at, model::specs::Deeds::recorded))]
-pub fn recorded(records: [PageRecord; 64], t: Transaction, new: PageRecord) -> [PageRecord; 64]
+pub fn recorded(records: &mut [PageRecord; 64], t: Transaction, new: PageRecord)
     requires { Reached t }
-    ensures { result ≡ recorded records t new }
+    ensures { records.new ≡ recorded records.old t new }
 {
-    let pages = t.pages;
-    let count = count_of(t) as usize;
-    let mut all = records;
-    let mut i: usize = 0;
-    while i < count {
-        let p = pages[i].0 as usize;
-        all[p] = new;
-        i += 1;
+    for p in &t.pages[..count_of(t) as usize] {
+        records[p.0 as usize] = new;
     }
-    all
 }
 
-// Each of the first count pages has this record.
+// Each of the pages has this record.
 #[tactic(auto, unfolding(model::specs::State::record_at))]
-pub fn all_have(records: [PageRecord; 64], count: u8, pages: [PageId; 8], due: PageRecord) -> bool
-    requires { (count ≤ PLACES) × ((i : ℕ) → i < count → (get_or pages i (page 0)).0 < PAGES) }
-    ensures { result ≡ every count (λ i. same_record (record_at records (get_or pages i (page 0))) due) }
+pub fn all_have(records: &[PageRecord; 64], pages: &[PageId], due: PageRecord) -> bool
+    requires { (i : ℕ) → i < length pages.now → (get_or pages.now i (page 0)).0 < PAGES }
+    ensures { result ≡ list_all (λ p. same_record (record_at records.now p) due) pages.now }
 {
-    let mut i: usize = 0;
-    while i < count as usize {
-        let p = pages[i].0 as usize;
-        let record = records[p];
-        if !crate::same_record(record, due) {
-            return false;
-        }
-        i += 1;
-    }
-    true
+    pages
+        .iter()
+        .all(|p| crate::same_record(records[p.0 as usize], due))
 }

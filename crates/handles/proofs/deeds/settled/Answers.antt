@@ -3,4 +3,4 @@ use Rattle.handles.proofs.Handles.{settled_by}
 use Rattle.handles.proofs.deeds.settled.Goals as goal
 
 pub returns : goal.returns
-returns c = settled_by c.args.machine c.args.h c.args.new c.args.t c.args.due c.recorded-all.ensures
+returns c = settled_by c.args.machine c.args.h c.args.new c.args.t c.args.due c.recorded.ensures

@@ -1,17 +1,13 @@
-use Rattle.std.proofs.Common.{arith, get_or, ◌<◌, ◌≤◌}
-use Rattle.model.specs.Constants.{PAGES, PLACES}
-use Rattle.model.specs.State.{page, page_at}
+-- `parts::pages::recorded`: a turn of the loop sets the record at one more of the transaction's pages.
+use Rattle.std.proofs.Common.{arith, get_or-take}
+use Rattle.model.specs.State.{page}
 use Rattle.parts.proofs.Loops.{set_more, set_none}
 use Rattle.parts.proofs.pages.recorded.Goals as goal
 
-pub loop-i-init : goal.loop-i-init
-loop-i-init c = (omega arith, set_none _ _ _)
+pub loop-p-init : goal.loop-p-init
+loop-p-init c = set_none _ _ _
 
-pub loop-i-preserved : goal.loop-i-preserved
-unfolding page_at
-loop-i-preserved c =
-    let few : c.count_of-count.result ≤ PLACES = rw c.count_of-count.ensures c.requires.few in
-    let fits : (get_or c.args.t.pages c.loop-i.i (page 0)).0 < PAGES =
-    c.requires.below c.loop-i.i (rw c.count_of-count.ensures at c.loop-i-test.true)
-    in
-    (omega arith, set_more _ _ _ _ c.loop-i.invariant.1)
+pub loop-p-preserved : goal.loop-p-preserved
+loop-p-preserved c =
+    rw (get_or-take c.count_of.result c.args.t.pages c.loop-p.p-index (page 0) (omega arith))
+    (set_more _ _ _ _ c.loop-p.invariant)
