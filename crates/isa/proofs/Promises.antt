@@ -4,10 +4,9 @@ use mathlib.Core.Path.{◌≡◌, refl, ap, ◌∙◌}
 use mathlib.Core.Bool.{true}
 use mathlib.Core.Logic.{inl, inr}
 use native.Mathlib.Omega.{arith}
+use Rattle.std.specs.Prelude.{Some, None}
 use Rattle.isa.specs.declared.Instruction.{Instruction}
 use Rattle.isa.specs.declared.Instruction.TheVariants.{Movi, Movt, Mov, Ldr, Str, Add, Sub, Addi, Cmp, Bne, Br, Hvc, Halt}
-use Rattle.isa.specs.declared.Decoded.TheVariants as decoded
-use Rattle.isa.specs.declared.Encoded.TheVariants as encoded
 use Rattle.isa.specs.Opcodes.{opcodes, opcode_at}
 use Rattle.isa.specs.Word.{fields_of, word_of, legal, Bounded}
 use Rattle.isa.specs.Decode.{meaning_of, decode_of, decode_number}
@@ -34,21 +33,21 @@ list_agrees Halt = refl
 
 decoded_parts :
     (w : ℕ) (i : Instruction) →
-    decode_of w ≡ decoded.Meaning i →
+    decode_of w ≡ Some i →
     (legal (fields_of w) ≡ true) × (parts_of i ≡ fields_of w)
 unfolding decode_of meaning_of
 decoded_parts w i e =
-    let h = cond_left (legal (fields_of w)) (decoded.Meaning (opcode_at (fields_of w)).means) _ _ (λ q. cc) e in
+    let h = cond_left (legal (fields_of w)) (Some (opcode_at (fields_of w)).means) _ _ (λ q. cc) e in
     let same : (opcode_at (fields_of w)).means ≡ i = cc in
     (h.0, rw (← same) (parts_means (fields_of w) h.0))
 
 encoded_parts :
     (i : Instruction) (w : ℕ) →
-    encode_of i ≡ encoded.Word w →
+    encode_of i ≡ Some w →
     Bounded (parts_of i) × (legal (parts_of i) ≡ true) × (word_of (parts_of i) ≡ w)
 unfolding encode_of
 encoded_parts i w e =
-    let h = cond_left (legal (parts_of i)) (encoded.Word (word_of (parts_of i))) _ _ (λ q. cc) e in
+    let h = cond_left (legal (parts_of i)) (Some (word_of (parts_of i))) _ _ (λ q. cc) e in
     (legal_bounded (parts_of i) h.0, h.0, cc)
 
 pub decode_encode : DecodeEncode
@@ -60,7 +59,7 @@ decode_encode i w e =
 
 pub encode_decode : EncodeDecode
 unfolding encode_of
-encode_decode w i e = let h = decoded_parts w i e in rw (h.1, h.0) (ap encoded.Word (word_fields w))
+encode_decode w i e = let h = decoded_parts w i e in rw (h.1, h.0) (ap Some (word_fields w))
 
 pub decoded_bounded : DecodedBounded
 decoded_bounded w i e =
@@ -72,15 +71,15 @@ encoded_below i w e =
 
 pub decode_numbers : DecodeNumbers
 unfolding decode_number
-decode_numbers (decoded.Meaning i) = inl refl
-decode_numbers decoded.NotInstruction = inr refl
+decode_numbers (Some i) = inl refl
+decode_numbers None = inr refl
 
 pub encode_numbers : EncodeNumbers
 unfolding encode_number
-encode_numbers (encoded.Word w) = inl refl
-encode_numbers encoded.NotInstruction = inr refl
+encode_numbers (Some w) = inl refl
+encode_numbers None = inr refl
 
 pub refused_word_lem : RefusedWord
 unfolding encode_number encode_word
-refused_word_lem (encoded.Word w) e = absurd (omega arith)
-refused_word_lem encoded.NotInstruction e = refl
+refused_word_lem (Some w) e = absurd (omega arith)
+refused_word_lem None e = refl

@@ -6,6 +6,11 @@ use mathlib.Core.Logic.{◌⊎◌, inl, inr}
 use native.Mathlib.Omega.{arith}
 use Rattle.isa.specs.Tests.{◌and◌, ◌or◌}
 
+-- what opens joined tests, to be named at a function
+unfoldable pub joined : Unit {0}
+unfolding ◌and◌ ◌or◌
+joined = tt
+
 -- A test does not both pass and fail, and fails if it cannot pass.
 
 pub not_both : {a : Bool} → a ≡ true → a ≡ false → ⊥

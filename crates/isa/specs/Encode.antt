@@ -1,10 +1,8 @@
 -- What `encode` answers for a meaning.
-use Rattle.std.specs.Prelude.{ℕ, cond}
+use Rattle.std.specs.Prelude.{ℕ, cond, Option, Some, None}
 use Rattle.isa.specs.declared.Instruction.{Instruction}
 use Rattle.isa.specs.declared.Instruction.TheVariants.{Movi, Movt, Mov, Ldr, Str, Add, Sub, Addi, Cmp, Bne, Br, Hvc, Halt}
 use Rattle.isa.specs.declared.Fields.{Fields}
-use Rattle.isa.specs.declared.Encoded.{Encoded}
-use Rattle.isa.specs.declared.Encoded.TheVariants as encoded
 use Rattle.isa.specs.Word.{word_of, legal}
 
 abbrev pub fields : ℕ → ℕ → ℕ → ℕ → Fields
@@ -26,14 +24,14 @@ parts_of (Br s) = fields 11 0 s 0
 parts_of Hvc = fields 12 0 0 0
 parts_of Halt = fields 13 0 0 0
 
-unfoldable pub encode_of : Instruction → Encoded
-encode_of i = cond (legal (parts_of i)) (encoded.Word (word_of (parts_of i))) encoded.NotInstruction
+unfoldable pub encode_of : Instruction → Option ℕ
+encode_of i = cond (legal (parts_of i)) (Some (word_of (parts_of i))) None
 
 -- the answer's number, and the word that goes with it
-unfoldable pub encode_number : Encoded → ℕ
-encode_number (encoded.Word w) = 0
-encode_number encoded.NotInstruction = 5
+unfoldable pub encode_number : Option ℕ → ℕ
+encode_number (Some w) = 0
+encode_number None = 5
 
-unfoldable pub encode_word : Encoded → ℕ
-encode_word (encoded.Word w) = w
-encode_word encoded.NotInstruction = 0
+unfoldable pub encode_word : Option ℕ → ℕ
+encode_word (Some w) = w
+encode_word None = 0

@@ -17,7 +17,7 @@ ghost use Rattle.isa.specs.Encode.{fields, parts_of, encode_of};
 
 // What a word tells the machine to do. d and s are register numbers, k a number of 16 bits. The types are wider than
 // the fields: a value that no word can hold is no instruction, and `encode` says so.
-#[derive(Clone, Copy)]
+#[derive(Clone, Copy, PartialEq, Eq, Debug)]
 pub enum Instruction {
     Movi(u8, u32),
     Movt(u8, u32),
@@ -35,7 +35,7 @@ pub enum Instruction {
 }
 
 // Which of the fields d, s and k an instruction has; `None` for a code that is no instruction's.
-#[derive(Clone, Copy)]
+#[derive(Clone, Copy, PartialEq, Eq, Debug)]
 pub enum Shape {
     None,
     DK,
@@ -45,7 +45,7 @@ pub enum Shape {
 }
 
 // The four fields of a word.
-#[derive(Clone, Copy)]
+#[derive(Clone, Copy, PartialEq, Eq, Debug)]
 pub struct Fields {
     pub code: u8,
     pub d: u8,
@@ -54,24 +54,10 @@ pub struct Fields {
 }
 
 // What a code stands for: the fields that its words have, and the instruction.
-#[derive(Clone, Copy)]
+#[derive(Clone, Copy, PartialEq, Eq, Debug)]
 pub struct Opcode {
     pub shape: Shape,
     pub means: Instruction,
-}
-
-// What `decode` answers.
-#[derive(Clone, Copy)]
-pub enum Decoded {
-    NotInstruction,
-    Meaning(Instruction),
-}
-
-// What `encode` answers.
-#[derive(Clone, Copy)]
-pub enum Encoded {
-    NotInstruction,
-    Word(u32),
 }
 
 // A word cut into its fields.
@@ -86,84 +72,62 @@ pub fn fields_of(word: u32) -> Fields
     }
 }
 
-// A row of the list of instructions, for `opcode_at`, which has one in each line.
-fn row(shape: Shape, means: Instruction) -> Opcode
-    ensures { result ≡ opcode shape means }
-{
-    Opcode {
-        shape: shape,
-        means: means,
-    }
-}
-
 // The row that a word with these fields is an instance of.
+#[tactic(auto, using(crate::proofs::Laws::no_opcode), unfolding(crate::specs::Opcodes::opcode_at, crate::specs::Opcodes::opcodes))]
 fn opcode_at(f: Fields) -> Opcode
     ensures { result ≡ opcode_at f }
 {
-    let code = f.code;
-    match code {
-        codes::MOVI => row(Shape::DK, Instruction::Movi(f.d, f.k)),
-        codes::MOVT => row(Shape::DK, Instruction::Movt(f.d, f.k)),
-        codes::MOV => row(Shape::DS, Instruction::Mov(f.d, f.s)),
-        codes::LDR => row(Shape::DS, Instruction::Ldr(f.d, f.s)),
-        codes::STR => row(Shape::DS, Instruction::Str(f.d, f.s)),
-        codes::ADD => row(Shape::DS, Instruction::Add(f.d, f.s)),
-        codes::SUB => row(Shape::DS, Instruction::Sub(f.d, f.s)),
-        codes::ADDI => row(Shape::DK, Instruction::Addi(f.d, f.k)),
-        codes::CMP => row(Shape::DS, Instruction::Cmp(f.d, f.s)),
-        codes::BNE => row(Shape::S, Instruction::Bne(f.s)),
-        codes::BR => row(Shape::S, Instruction::Br(f.s)),
-        codes::HVC => row(Shape::Bare, Instruction::Hvc),
-        codes::HALT => row(Shape::Bare, Instruction::Halt),
-        _ => row(Shape::None, Instruction::Halt),
-    }
+    let (shape, means) = match f.code {
+        codes::MOVI => (Shape::DK, Instruction::Movi(f.d, f.k)),
+        codes::MOVT => (Shape::DK, Instruction::Movt(f.d, f.k)),
+        codes::MOV => (Shape::DS, Instruction::Mov(f.d, f.s)),
+        codes::LDR => (Shape::DS, Instruction::Ldr(f.d, f.s)),
+        codes::STR => (Shape::DS, Instruction::Str(f.d, f.s)),
+        codes::ADD => (Shape::DS, Instruction::Add(f.d, f.s)),
+        codes::SUB => (Shape::DS, Instruction::Sub(f.d, f.s)),
+        codes::ADDI => (Shape::DK, Instruction::Addi(f.d, f.k)),
+        codes::CMP => (Shape::DS, Instruction::Cmp(f.d, f.s)),
+        codes::BNE => (Shape::S, Instruction::Bne(f.s)),
+        codes::BR => (Shape::S, Instruction::Br(f.s)),
+        codes::HVC => (Shape::Bare, Instruction::Hvc),
+        codes::HALT => (Shape::Bare, Instruction::Halt),
+        _ => (Shape::None, Instruction::Halt),
+    };
+    Opcode { shape, means }
 }
 
 // Whether each field that the shape has is a register's number, and each that it lacks is zero.
+#[tactic(auto, unfolding(crate::specs::Word::fits_shape, crate::proofs::Tests::joined))]
 fn fits_shape(shape: Shape, f: Fields) -> bool
     ensures { result ≡ fits_shape shape f }
 {
     match shape {
         Shape::None => false,
         Shape::DK => (f.d < 8) & (f.s == 0),
-        Shape::DS => (f.d < 8) & ((f.s < 8) & (f.k == 0)),
-        Shape::S => (f.d == 0) & ((f.s < 8) & (f.k == 0)),
-        Shape::Bare => (f.d == 0) & ((f.s == 0) & (f.k == 0)),
+        Shape::DS => (f.d < 8) & (f.s < 8) & (f.k == 0),
+        Shape::S => (f.d == 0) & (f.s < 8) & (f.k == 0),
+        Shape::Bare => (f.d == 0) & (f.s == 0) & (f.k == 0),
     }
 }
 
 // Whether the fields are an instruction's.
+#[tactic(auto, unfolding(crate::specs::Word::legal, crate::proofs::Tests::joined))]
 pub fn legal(f: Fields) -> bool
     ensures { result ≡ legal f }
 {
-    let row = opcode_at(f);
-    let shape = row.shape;
-    (f.k < 65536) & fits_shape(shape, f)
+    (f.k < 65536) & fits_shape(opcode_at(f).shape, f)
 }
 
 // What a word means, if it means anything.
-pub fn decode(word: u32) -> Decoded
+#[tactic(auto, unfolding(crate::specs::Decode::decode_of, crate::specs::Decode::meaning_of))]
+pub fn decode(word: u32) -> Option<Instruction>
     ensures { result ≡ decode_of word }
 {
     let f = fields_of(word);
     if legal(f) {
-        let row = opcode_at(f);
-        let means = row.means;
-        Decoded::Meaning(means)
+        Some(opcode_at(f).means)
     } else {
-        Decoded::NotInstruction
-    }
-}
-
-// Four fields together, for `parts_of`, which has them in each line.
-fn parts(code: u8, d: u8, s: u8, k: u32) -> Fields
-    ensures { result ≡ fields code d s k }
-{
-    Fields {
-        code: code,
-        d: d,
-        s: s,
-        k: k,
+        None
     }
 }
 
@@ -171,39 +135,38 @@ fn parts(code: u8, d: u8, s: u8, k: u32) -> Fields
 fn parts_of(i: Instruction) -> Fields
     ensures { result ≡ parts_of i }
 {
-    match i {
-        Instruction::Movi(d, k) => parts(codes::MOVI, d, 0, k),
-        Instruction::Movt(d, k) => parts(codes::MOVT, d, 0, k),
-        Instruction::Mov(d, s) => parts(codes::MOV, d, s, 0),
-        Instruction::Ldr(d, s) => parts(codes::LDR, d, s, 0),
-        Instruction::Str(d, s) => parts(codes::STR, d, s, 0),
-        Instruction::Add(d, s) => parts(codes::ADD, d, s, 0),
-        Instruction::Sub(d, s) => parts(codes::SUB, d, s, 0),
-        Instruction::Addi(d, k) => parts(codes::ADDI, d, 0, k),
-        Instruction::Cmp(d, s) => parts(codes::CMP, d, s, 0),
-        Instruction::Bne(s) => parts(codes::BNE, 0, s, 0),
-        Instruction::Br(s) => parts(codes::BR, 0, s, 0),
-        Instruction::Hvc => parts(codes::HVC, 0, 0, 0),
-        Instruction::Halt => parts(codes::HALT, 0, 0, 0),
-    }
+    let (code, d, s, k) = match i {
+        Instruction::Movi(d, k) => (codes::MOVI, d, 0, k),
+        Instruction::Movt(d, k) => (codes::MOVT, d, 0, k),
+        Instruction::Mov(d, s) => (codes::MOV, d, s, 0),
+        Instruction::Ldr(d, s) => (codes::LDR, d, s, 0),
+        Instruction::Str(d, s) => (codes::STR, d, s, 0),
+        Instruction::Add(d, s) => (codes::ADD, d, s, 0),
+        Instruction::Sub(d, s) => (codes::SUB, d, s, 0),
+        Instruction::Addi(d, k) => (codes::ADDI, d, 0, k),
+        Instruction::Cmp(d, s) => (codes::CMP, d, s, 0),
+        Instruction::Bne(s) => (codes::BNE, 0, s, 0),
+        Instruction::Br(s) => (codes::BR, 0, s, 0),
+        Instruction::Hvc => (codes::HVC, 0, 0, 0),
+        Instruction::Halt => (codes::HALT, 0, 0, 0),
+    };
+    Fields { code, d, s, k }
 }
 
 // The word that has these fields.
+#[tactic(auto, using(crate::proofs::Laws::legal_bounded))]
 fn word_of(f: Fields) -> u32
     requires { legal f ≡ true }
     ensures { result ≡ word_of f }
 {
-    f.code as u32 + 256 * (f.d as u32) + 4096 * (f.s as u32) + 65536 * f.k
+    u32::from(f.code) + 256 * u32::from(f.d) + 4096 * u32::from(f.s) + 65536 * f.k
 }
 
 // The word of a meaning, if a word can hold it.
-pub fn encode(i: Instruction) -> Encoded
+#[tactic(auto, unfolding(crate::specs::Encode::encode_of))]
+pub fn encode(i: Instruction) -> Option<u32>
     ensures { result ≡ encode_of i }
 {
     let f = parts_of(i);
-    if legal(f) {
-        Encoded::Word(word_of(f))
-    } else {
-        Encoded::NotInstruction
-    }
+    if legal(f) { Some(word_of(f)) } else { None }
 }
