@@ -3,10 +3,9 @@ use Prim.Native.Nat.{ℕ}
 use mathlib.Core.Path.{◌≡◌, refl}
 use mathlib.Core.Bool.{Bool, true, false, cond}
 use lib.ListN.{length, length-set}
+use Rattle.std.specs.Prelude.{Option, Some, None}
 use Rattle.isa.specs.declared.Instruction.{Instruction}
 use Rattle.isa.specs.declared.Instruction.TheVariants.{Movi, Movt, Mov, Ldr, Str, Add, Sub, Addi, Cmp, Bne, Br, Hvc, Halt}
-use Rattle.isa.specs.declared.Decoded.{Decoded}
-use Rattle.isa.specs.declared.Decoded.TheVariants.{NotInstruction, Meaning}
 use Rattle.isa.specs.Decode.{decode_of}
 use Rattle.model.specs.declared.Registers.{Registers}
 use Rattle.model.specs.declared.Access.{Access}
@@ -58,11 +57,11 @@ performed Hvc s aims = did_call aims refl
 performed Halt s aims = did_halt refl
 
 -- each word
-executed : (word : Decoded) (s : State) → aim step s ≡ aim_of_word word (own_registers s.machine)
+executed : (word : Option Instruction) (s : State) → aim step s ≡ aim_of_word word (own_registers s.machine)
     → StepCase s (ended (execute word (rights s.machine) (own_registers s.machine) s.memory) s)
 unfolding aim_of_word execute ended
-executed (Meaning i) s aims = performed i s aims
-executed NotInstruction s aims = did_fault refl
+executed (Some i) s aims = performed i s aims
+executed None s aims = did_fault refl
 
 pub step_case : (s : State) → StepCase s (step_effect s)
 unfolding step_effect guest_step aim

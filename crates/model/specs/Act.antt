@@ -1,11 +1,9 @@
 -- Acts, what each leaves, and the events that are read off the state before and after: the words in which promises over
 -- time are said.
-use Rattle.std.specs.Prelude.{ℕ, Bool, true, false, cond, List, [], ◌∷◌, get_or, eqb}
+use Rattle.std.specs.Prelude.{ℕ, Bool, true, false, cond, List, [], ◌∷◌, get_or, eqb, Option, Some, None}
 use Rattle.isa.specs.Tests.{◌and◌, ◌or◌}
 use Rattle.isa.specs.declared.Instruction.{Instruction}
 use Rattle.isa.specs.declared.Instruction.TheVariants.{Movi, Movt, Mov, Ldr, Str, Add, Sub, Addi, Cmp, Bne, Br, Hvc, Halt}
-use Rattle.isa.specs.declared.Decoded.{Decoded}
-use Rattle.isa.specs.declared.Decoded.TheVariants.{NotInstruction, Meaning}
 use Rattle.isa.specs.Decode.{decode_of}
 use Rattle.model.specs.declared.VmId.{VmId}
 use Rattle.model.specs.declared.PageId.{PageId}
@@ -77,9 +75,9 @@ aim_of (Br s) file = other
 aim_of Hvc file = calling
 aim_of Halt file = other
 
-unfoldable pub aim_of_word : Decoded → Registers → Aim
-aim_of_word (Meaning i) file = aim_of i file
-aim_of_word NotInstruction file = other
+unfoldable pub aim_of_word : Option Instruction → Registers → Aim
+aim_of_word (Some i) file = aim_of i file
+aim_of_word None file = other
 
 unfoldable pub aim : Act → State → Aim
 aim step s = aim_of_word (decode_of (fetched (own_registers s.machine) s.memory)) (own_registers s.machine)

@@ -1,9 +1,7 @@
 -- One instruction of a guest, from its registers, its rights and the memory: every instruction but the call itself.
-use Rattle.std.specs.Prelude.{ℕ, ◌+◌, ◌-◌, ◌*◌, ◌%◌, Bool, cond, List, set, eqb}
+use Rattle.std.specs.Prelude.{ℕ, ◌+◌, ◌-◌, ◌*◌, ◌%◌, Bool, cond, List, set, eqb, Option, Some, None}
 use Rattle.isa.specs.declared.Instruction.{Instruction}
 use Rattle.isa.specs.declared.Instruction.TheVariants.{Movi, Movt, Mov, Ldr, Str, Add, Sub, Addi, Cmp, Bne, Br, Hvc, Halt}
-use Rattle.isa.specs.declared.Decoded.{Decoded}
-use Rattle.isa.specs.declared.Decoded.TheVariants.{NotInstruction, Meaning}
 use Rattle.isa.specs.Decode.{decode_of}
 use Rattle.model.specs.declared.Registers.{Registers}
 use Rattle.model.specs.declared.Access.{Access}
@@ -70,9 +68,9 @@ perform (Br s) rights file memory = moved (jumped file (register file s)) memory
 perform Hvc rights file memory = called
 perform Halt rights file memory = halted
 
-unfoldable pub execute : Decoded → Rights → Registers → List ℕ → Move
-execute (Meaning i) rights file memory = perform i rights file memory
-execute NotInstruction rights file memory = faulted
+unfoldable pub execute : Option Instruction → Rights → Registers → List ℕ → Move
+execute (Some i) rights file memory = perform i rights file memory
+execute None rights file memory = faulted
 
 unfoldable pub guest_step : Rights → Registers → List ℕ → Move
 guest_step rights file memory =

@@ -3,12 +3,11 @@
 --
 -- The machine has three guests and ten pages: pages 0 to 2 are owned by guests 0 to 2, pages 3 to 8 are TX and RX of
 -- guests 0, 1 and 2, and page 9 is owned by guest 1. Who is current is set by hand before each call.
-use Rattle.std.specs.Prelude.{ℕ, ◌*◌, ◌<◌, ◌≡◌, Bool, true, false, List, [], ◌∷◌, Option, None, Some}
+use Rattle.std.specs.Prelude.{Option, None, Some, ℕ, ◌*◌, ◌<◌, ◌≡◌, Bool, true, false, List, [], ◌∷◌}
 use Rattle.model.specs.declared.Deal.{Deal}
 use lib.ListN.{replicate}
 use Rattle.std.proofs.Math.Seq.{paste}
 use Rattle.isa.specs.declared.Instruction.TheVariants.{Movi}
-use Rattle.isa.specs.declared.Decoded.TheVariants.{Meaning, NotInstruction}
 use Rattle.isa.specs.Decode.{decode_of}
 use Rattle.model.specs.declared.VmId.{VmId}
 use Rattle.model.specs.declared.Registers.{Registers}
@@ -183,8 +182,8 @@ pub record PCases : Type 0 where
   pub P10-above : seen_by (vm 1) (message_of_length 1025) ≡ seen 0 0x84000060 4294967294 (owned 1 0b010 true) None
   pub P10-all : seen_by (vm 1) (message_of_length 1024) ≡ seen 0 0x84000061 1024 (owned 1 0b010 true) None
   pub P11 : seen_by (vm 0) (instruction 0x00001006 0xFFFFFFFF 1) ≡ seen 0 0 0 (owned 1 0b010 true) None
-  pub P12 : decode_of 0x006C0001 ≡ Meaning (Movi 0 108)
-  pub P12-none : decode_of 0x00000801 ≡ NotInstruction
+  pub P12 : decode_of 0x006C0001 ≡ Some (Movi 0 108)
+  pub P12-none : decode_of 0x00000801 ≡ None
 
 -- The laws over the number have premises that can be met: these are the laws at P1 and at the last of P10.
 pub record LawsApply : Type 0 where
