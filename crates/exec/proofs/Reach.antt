@@ -1,12 +1,10 @@
 -- The laws of maps of pages: their bits, what the access check by a map says, and that it is the check by the rights.
-use Rattle.std.proofs.Common.{◌≡◌, ℕ, zero, suc, ◌+◌, ◌*◌, ◌/◌, ◌%◌, ◌^◌, ◌<◌, ◌≤◌, Bool, true, false, cond, ltb, List, length, refl, ◌∙◌, div-one, arith, ltb-true, le-ltb, lt-ltb, eq-eqb, ne_eqb}
+use Rattle.std.proofs.Common.{◌≡◌, ℕ, zero, suc, ◌+◌, ◌*◌, ◌/◌, ◌%◌, ◌^◌, ◌<◌, ◌≤◌, Bool, true, false, cond, ltb, List, length, Option, Some, None, refl, ◌∙◌, div-one, arith, ltb-true, le-ltb, lt-ltb, eq-eqb, ne_eqb}
 use native.Mathlib.Nat.{pow-succ', div-div-eq-div-mul}
 use Rattle.isa.specs.Tests.{◌and◌}
 use Rattle.isa.proofs.Tests.{and_left}
 use Rattle.isa.specs.declared.Instruction.{Instruction}
 use Rattle.isa.specs.declared.Instruction.TheVariants.{Movi, Movt, Mov, Ldr, Str, Add, Sub, Addi, Cmp, Bne, Br, Hvc, Halt}
-use Rattle.isa.specs.declared.Decoded.{Decoded}
-use Rattle.isa.specs.declared.Decoded.TheVariants.{NotInstruction, Meaning}
 use Rattle.isa.specs.Decode.{decode_of}
 use Rattle.model.specs.declared.VmId.{VmId}
 use Rattle.model.specs.declared.PageId.{PageId}
@@ -136,10 +134,10 @@ module _ (memory : List ℕ) where
     same_perform Hvc = refl
     same_perform Halt = refl
 
-    same_execute : (d : Decoded) → execute d a file memory ≡ execute d b file memory
+    same_execute : (d : Option Instruction) → execute d a file memory ≡ execute d b file memory
     unfolding execute
-    same_execute (Meaning i) = same_perform i
-    same_execute NotInstruction = refl
+    same_execute (Some i) = same_perform i
+    same_execute None = refl
 
     same_step : guest_step a file memory ≡ guest_step b file memory
     unfolding guest_step
