@@ -102,10 +102,6 @@ or_nothing false = refl
 
 -- A choice.
 
-pub cond_false : {A : Type 0} (b : Bool) (x y : A) → b ≡ false → cond b x y ≡ y
-cond_false true x y e = absurd (true≢false e)
-cond_false false x y e = refl
-
 -- a choice that is not its second side, since that would make 0 equal to 1, is its first
 pub cond_left :
     {A : Type 0} (b : Bool) (x y z : A) →

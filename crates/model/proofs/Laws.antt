@@ -17,7 +17,7 @@ use Rattle.model.specs.Sending.{lowest_free, sending_verdict, sending_effect, se
 use Rattle.model.specs.HandleCall.{lookup}
 use Rattle.model.specs.Entries.{judged, check_of}
 use Rattle.model.specs.Laws.{NothingAboveLast, SentPagesAscend, LowestFreeIsTaken, SendCopiesItsLength, BlankIsRefused}
-use Rattle.isa.proofs.Tests.{cond_false}
+use Rattle.std.proofs.lemmas.Bool.{cond-false}
 use Rattle.model.proofs.Tests.{ascending_lt}
 use Rattle.model.proofs.State.{shaped_sized, written_sized, written_at, transaction_same, transaction_other}
 use Rattle.model.proofs.Reply.{answer_passes}
@@ -29,7 +29,7 @@ use Rattle.model.proofs.Sending.{passed, free_at_lowest, live_below_lowest}
 
 pub nothing_above_last : NothingAboveLast
 unfolding lookup
-nothing_above_last transactions w h = cond_false (ltb w HANDLES) _ _ (le-ltb w HANDLES h)
+nothing_above_last transactions w h = cond-false (ltb w HANDLES) _ _ (le-ltb w HANDLES h)
 
 -- Sendings.
 
