@@ -3,7 +3,7 @@
 --
 -- The machine has three guests and ten pages: pages 0 to 2 are owned by guests 0 to 2, pages 3 to 8 are TX and RX of
 -- guests 0, 1 and 2, and page 9 is owned by guest 1. Who is current is set by hand before each call.
-use Rattle.std.specs.Prelude.{Option, None, Some, ℕ, ◌*◌, ◌<◌, ◌≡◌, Bool, true, false, List, [], ◌∷◌}
+use Rattle.std.specs.Prelude.{ℕ, ◌*◌, ◌<◌, ◌≡◌, Bool, true, false, List, [], ◌∷◌, Option, None, Some}
 use Rattle.model.specs.declared.Deal.{Deal}
 use lib.ListN.{replicate}
 use Rattle.std.proofs.Math.Seq.{paste}

@@ -4,7 +4,7 @@ ghost use Rattle.std.specs.Prelude.{◌≡◌, ◌<◌};
 ghost use Rattle.model.specs.Constants.{GUESTS};
 ghost use Rattle.model.specs.State.{argument};
 ghost use Rattle.model.specs.Reply.{with_error, succeeded, handed_over};
-ghost use Rattle.parts.specs.Refusal.{code_of};
+ghost use Rattle.parts.specs.Refusal.{code_of, answered};
 
 use crate::{Refusal, codes, registers};
 use model::{Machine, VmId};
@@ -29,6 +29,18 @@ pub fn with_error(machine: Machine, refusal: Refusal) -> Machine
     Machine {
         registers,
         ..machine
+    }
+}
+
+// A call that came to this: the machine that it left, or the error.
+#[tactic(auto, unfolding(crate::specs::Refusal::answered))]
+pub fn answered(machine: Machine, outcome: Result<Machine, Refusal>) -> Machine
+    requires { machine.current.0 < GUESTS }
+    ensures { result ≡ answered machine outcome }
+{
+    match outcome {
+        Ok(next) => next,
+        Err(refusal) => with_error(machine, refusal),
     }
 }
 
