@@ -13,7 +13,7 @@ use Rattle.isa.proofs.Laws.{legal_bounded, NoneOf, none_below, no_opcode}
 use Rattle.model.specs.declared.Registers.{Registers}
 use Rattle.model.specs.Memory.{fetched}
 use Rattle.model.specs.Rights.{Rights, access}
-use Rattle.model.specs.State.{plus, register}
+use Rattle.model.specs.State.{with_register}
 use Rattle.model.specs.Execute.{Move, moved, advanced, gets, if_allowed, perform, execute, guest_step}
 use Rattle.exec.specs.declared.instruction.Stop.{Stop}
 use Rattle.exec.specs.declared.instruction.Stop.TheVariants.{Moved, Faulted}
@@ -46,77 +46,23 @@ halts f none = go (eqb f.code 13) refl
     go true e = rw (eqb-true f.code 13 e)
     go false e = ap (λ (o : Opcode). o.means) (no_opcode f (none_below 13 _ (none, eqb-false _ _ e)))
 
--- Registers that are read one after the other, and what is made of them.
-
-pub one_read :
-    {A : Type 0} (op : ℕ → A) (r : List ℕ) (d : ℕ) {kept : List ℕ} {a : ℕ} {v : A} →
-    v ≡ op a →
-    (a ≡ get_or r d 0) × (kept ≡ r) →
-    (v ≡ op (get_or r d 0)) × (kept ≡ r)
-one_read op r d e read = (rw (e, read.0), read.1)
-
-pub two_read :
-    {A : Type 0} (op : ℕ → ℕ → A) (r : List ℕ) (d s : ℕ) {first second : List ℕ} {a b : ℕ} {v : A} →
-    v ≡ op a b →
-    (a ≡ get_or r d 0) × (first ≡ r) →
-    (b ≡ get_or first s 0) × (second ≡ first) →
-    (v ≡ op (get_or r d 0) (get_or r s 0)) × (second ≡ r)
-two_read op r d s e one two = (rw (e, two.0, one.1, one.0), two.1 ∙ one.1)
-
-module _ (rights : Rights) (file : Registers) (memory : List ℕ) {stop : Stop} {pc' : ℕ} where
-  -- Rd becomes w, and pc goes on
+-- What moves on: with Rd set, or with another memory.
+module _ (rights : Rights) (file : Registers) (memory : List ℕ) {stop : Stop} {next : Registers} where
   pub gets_done :
-      (i : Instruction) (d : ℕ) {v w : ℕ} {kept r' : List ℕ} →
-      (v ≡ w) × (kept ≡ file.r) →
-      perform i rights file memory ≡ gets file memory d w →
-      (stop ≡ Moved) × (r' ≡ set kept d v) × (pc' ≡ plus file.pc 1) →
-      turn stop (file_of r' pc' file.equal) memory ≡ performs i rights file memory
-  unfolding performs ends gets advanced
-  gets_done i d known same did = rw (same, did.0, did.1, did.2, known.0, known.1)
+      (i : Instruction) (d v : ℕ) →
+      perform i rights file memory ≡ gets file memory d v →
+      (stop ≡ Moved) × (next ≡ advanced (with_register file d v)) →
+      turn stop next memory ≡ performs i rights file memory
+  unfolding performs ends gets
+  gets_done i d v same did = rw (same, did.0, did.1)
 
-  -- the memory becomes other, and pc goes on
   pub stores_done :
-      (i : Instruction) {left other kept : List ℕ} →
-      (left ≡ other) × (kept ≡ file.r) →
-      perform i rights file memory ≡ moved (advanced file) other →
-      (stop ≡ Moved) × (pc' ≡ plus file.pc 1) →
-      turn stop (file_of kept pc' file.equal) left ≡ performs i rights file memory
-  unfolding performs ends advanced
-  stores_done i known same did = rw (same, did.0, did.1, known.0, known.1)
-
-  -- the flag becomes whether two registers are the same, and pc goes on
-  pub compares_done :
-      (d s : ℕ) {equal' : Bool} {kept : List ℕ} →
-      (equal' ≡ eqb (get_or file.r d 0) (get_or file.r s 0)) × (kept ≡ file.r) →
-      (stop ≡ Moved) × (pc' ≡ plus file.pc 1) →
-      turn stop (file_of kept pc' equal') memory ≡ performs (Cmp d s) rights file memory
-  unfolding performs perform ends advanced register
-  compares_done d s known did = rw (did.0, did.1, known.1, known.0)
-
-  -- pc becomes Rs, always or with the flag clear; with the flag set it goes on
-
-  pub branch_done :
-      (s : ℕ) {r' : List ℕ} →
-      (stop ≡ Moved) × (r' ≡ file.r) × (pc' ≡ get_or file.r s 0) →
-      turn stop (file_of r' pc' file.equal) memory ≡ performs (Br s) rights file memory
-  unfolding performs perform ends register
-  branch_done s did = rw (did.0, did.1, did.2)
-
-  pub unequal_branches :
-      (s : ℕ) {r' : List ℕ} →
-      file.equal ≡ false →
-      (stop ≡ Moved) × (r' ≡ file.r) × (pc' ≡ get_or file.r s 0) →
-      turn stop (file_of r' pc' file.equal) memory ≡ performs (Bne s) rights file memory
-  unfolding performs perform ends register
-  unequal_branches s e did = rw (did.0, did.1, did.2, e)
-
-  pub equal_stays :
-      (s : ℕ) →
-      file.equal ≡ true →
-      (stop ≡ Moved) × (pc' ≡ plus file.pc 1) →
-      turn stop (file_of file.r pc' file.equal) memory ≡ performs (Bne s) rights file memory
-  unfolding performs perform ends advanced
-  equal_stays s e did = rw (did.0, did.1, e)
+      (i : Instruction) (left : List ℕ) →
+      perform i rights file memory ≡ moved (advanced file) left →
+      (stop ≡ Moved) × (next ≡ advanced file) →
+      turn stop next left ≡ performs i rights file memory
+  unfolding performs ends
+  stores_done i left same did = rw (same, did.0, did.1)
 
 -- The code asks a test, and goes on if the answer is true.
 
@@ -135,12 +81,11 @@ module _ (map : ℕ) (memory : List ℕ) (x : ℕ) {y : ℕ} {b : Bool} (same : 
   asked_true move h = reach_true map memory x move (rw (← same) (passes e h))
 
   pub asked_false :
-      (file : Registers) (move : Move) {kept : List ℕ} →
-      kept ≡ file.r →
+      (file : Registers) (move : Move) →
       b ≡ false →
-      turn Faulted (file_of kept file.pc file.equal) memory ≡ ends (if_allowed (access (allowed_by map) memory x) move) file memory
+      turn Faulted file memory ≡ ends (if_allowed (access (allowed_by map) memory x) move) file memory
   unfolding ends
-  asked_false file move whole h = rw (reach_false map memory x move (rw (← same) (fails e h)), whole)
+  asked_false file move h = rw (reach_false map memory x move (rw (← same) (fails e h)))
 
 -- A word that was fetched: it faults, or what its fields mean is performed.
 module _

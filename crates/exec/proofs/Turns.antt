@@ -1,8 +1,9 @@
 -- One instruction leaves the memory as long as it was. And the laws of the inner loop: it goes on, it stops, its budget is spent.
-use Rattle.std.proofs.Common.{◌≡◌, ℕ, zero, suc, ◌-◌, ◌<◌, ◌≤◌, Bool, true, false, List, length, Option, Some, None, sym, refl, ap, ◌∙◌, true≢false, arith, length-set}
-use mathlib.Core.Bool.{false≢true}
+use Rattle.std.proofs.Common.{◌≡◌, ℕ, zero, suc, ◌-◌, ◌<◌, ◌≤◌, List, length, refl, ap, ◌∙◌, arith, length-set}
 use Rattle.isa.specs.declared.Instruction.{Instruction}
 use Rattle.isa.specs.declared.Instruction.TheVariants.{Movi, Movt, Mov, Ldr, Str, Add, Sub, Addi, Cmp, Bne, Br, Hvc, Halt}
+use Rattle.isa.specs.declared.Decoded.{Decoded}
+use Rattle.isa.specs.declared.Decoded.TheVariants.{NotInstruction, Meaning}
 use Rattle.isa.specs.Decode.{decode_of}
 use Rattle.model.specs.declared.Registers.{Registers}
 use Rattle.model.specs.declared.Access.{Access}
@@ -13,7 +14,7 @@ use Rattle.model.specs.Execute.{Move, gets, if_allowed, perform, execute, guest_
 use Rattle.exec.specs.declared.instruction.Stop.{Stop}
 use Rattle.exec.specs.declared.instruction.Stop.TheVariants.{Moved, Called, Faulted, Halted}
 use Rattle.exec.specs.Turn.{Turn, turn, ends, turn_of}
-use Rattle.exec.specs.Burst.{Burst, burst, is_moved, go_on, burst_of}
+use Rattle.exec.specs.Burst.{Burst, burst, go_on, burst_of}
 
 -- The memory's length.
 
@@ -49,11 +50,11 @@ perform_keeps Hvc rights file memory = refl
 perform_keeps Halt rights file memory = refl
 
 -- each word
-execute_keeps : (word : Option Instruction) (rights : Rights) (file : Registers) (memory : List ℕ)
+execute_keeps : (word : Decoded) (rights : Rights) (file : Registers) (memory : List ℕ)
     → Keeps (execute word rights file memory) file memory
 unfolding execute ends
-execute_keeps (Some i) rights file memory = perform_keeps i rights file memory
-execute_keeps None rights file memory = refl
+execute_keeps (Meaning i) rights file memory = perform_keeps i rights file memory
+execute_keeps NotInstruction rights file memory = refl
 
 pub turn_length : (rights : Rights) (file : Registers) (memory : List ℕ)
     → length (turn_of rights file memory).memory ≡ length memory
@@ -73,38 +74,34 @@ burst_turn stop rights (suc left) file memory h taken =
     let one_less : suc left - 1 ≡ left = omega arith in
     rw one_less (ap (λ (t : Turn). go_on t.stop t left (burst_of rights left)) taken)
 
-moves_on : (stop : Stop) (t : Turn) (left : ℕ) (rest : Registers → List ℕ → Burst) → is_moved stop ≡ true
+moves_on : (stop : Stop) (t : Turn) (left : ℕ) (rest : Registers → List ℕ → Burst) → stop ≡ Moved
     → rest t.file t.memory ≡ go_on stop t left rest
-unfolding is_moved go_on
-moves_on Moved t left rest e = refl
-moves_on Called t left rest e = absurd (false≢true e)
-moves_on Faulted t left rest e = absurd (false≢true e)
-moves_on Halted t left rest e = absurd (false≢true e)
+unfolding go_on
+moves_on stop t left rest e = rw e
 
-stays : (stop : Stop) (t : Turn) (left : ℕ) (rest : Registers → List ℕ → Burst) → is_moved stop ≡ false
+stays : (stop : Stop) (t : Turn) (left : ℕ) (rest : Registers → List ℕ → Burst) → (stop ≡ Moved → ⊥)
     → burst t left ≡ go_on stop t left rest
-unfolding is_moved go_on
-stays Moved t left rest e = absurd (true≢false e)
+unfolding go_on
+stays Moved t left rest e = absurd (e refl)
 stays Called t left rest e = refl
 stays Faulted t left rest e = refl
 stays Halted t left rest e = refl
 
--- a loop that asks whether the guest moved on, with the answer r: it goes on, it stops, its budget is spent
+-- the loop goes on if the guest moved on, and stops if not; its budget is spent
 
-pub burst_more : {stop : Stop} {next : Registers} {after : List ℕ} {r : Bool}
+pub burst_more : {stop : Stop} {next : Registers} {after : List ℕ}
     (rights : Rights) (left : ℕ) (file : Registers) (memory : List ℕ)
-    → 0 < left → turn stop next after ≡ turn_of rights file memory → r ≡ is_moved stop → r ≡ true
+    → 0 < left → turn stop next after ≡ turn_of rights file memory → stop ≡ Moved
     → burst_of rights (left - 1) next after ≡ burst_of rights left file memory
-burst_more {stop} rights left file memory h taken asked e =
-    moves_on stop _ (left - 1) (burst_of rights (left - 1)) (sym asked ∙ e)
-    ∙ burst_turn stop rights left file memory h taken
+burst_more {stop} rights left file memory h taken e =
+    moves_on stop _ (left - 1) (burst_of rights (left - 1)) e ∙ burst_turn stop rights left file memory h taken
 
-pub burst_stops : {stop : Stop} {next : Registers} {after : List ℕ} {r : Bool}
+pub burst_stops : {stop : Stop} {next : Registers} {after : List ℕ}
     (rights : Rights) (left : ℕ) (file : Registers) (memory : List ℕ)
-    → 0 < left → turn stop next after ≡ turn_of rights file memory → r ≡ is_moved stop → r ≡ false
+    → 0 < left → turn stop next after ≡ turn_of rights file memory → (stop ≡ Moved → ⊥)
     → burst (turn stop next after) (left - 1) ≡ burst_of rights left file memory
-burst_stops {stop} rights left file memory h taken asked e =
-    stays stop _ (left - 1) _ (sym asked ∙ e) ∙ burst_turn stop rights left file memory h taken
+burst_stops {stop} rights left file memory h taken e =
+    stays stop _ (left - 1) _ e ∙ burst_turn stop rights left file memory h taken
 
 pub burst_spent : (rights : Rights) (left : ℕ) (file : Registers) (memory : List ℕ) → left ≤ 0
     → burst (turn Moved file memory) 0 ≡ burst_of rights left file memory

@@ -1,5 +1,5 @@
 -- The inner loop: a guest's instructions until one does not move on, or the budget ends.
-use Rattle.std.specs.Prelude.{ℕ, zero, suc, Bool, true, false, List}
+use Rattle.std.specs.Prelude.{ℕ, zero, suc, List}
 use Rattle.model.specs.declared.Registers.{Registers}
 use Rattle.model.specs.Rights.{Rights}
 use Rattle.exec.specs.declared.instruction.Stop.{Stop}
@@ -13,12 +13,6 @@ pub record Burst : Type 0 where
 
 abbrev pub burst : Turn → ℕ → Burst
 burst last left = record { last = last; left = left }
-
-unfoldable pub is_moved : Stop → Bool
-is_moved Moved = true
-is_moved Called = false
-is_moved Faulted = false
-is_moved Halted = false
 
 -- on with the rest of the budget if the guest moved on
 unfoldable pub go_on : Stop → Turn → ℕ → (Registers → List ℕ → Burst) → Burst

@@ -9,8 +9,5 @@ pub fn may_reach(map: u64, words: usize, x: u32) -> bool
     requires { words ≤ PAGE * PAGES }
     ensures { result ≡ may_reach map words x }
 {
-    if (x as usize) < words {
-        return (map >> (x / 1024)) % 2 == 1;
-    }
-    false
+    (x as usize) < words && (map >> (x / 1024)) % 2 == 1
 }

@@ -1,20 +1,22 @@
-// One instruction of a guest: fetched, tested and executed. The registers, pc and the flag are lent, so that the inner loop
-// keeps them where they stand.
+// One instruction of a guest: fetched, tested and executed. The register file is lent, so that the inner loop keeps it where it
+// stands.
 
-ghost use Rattle.std.specs.Prelude.{◌≡◌, ℕ, ◌*◌, ◌<◌, ◌≤◌, Bool, true, List, length, slice_index, slice_set};
+ghost use Rattle.std.specs.Prelude.{◌≡◌, ℕ, ◌*◌, ◌<◌, ◌≤◌, true, List, length};
 ghost use Rattle.isa.specs.declared.Instruction.TheVariants.{Ldr, Str, Cmp, Bne};
 ghost use Rattle.isa.specs.Opcodes.{opcode_at};
 ghost use Rattle.isa.specs.Word.{legal};
 ghost use Rattle.model.specs.Constants.{PAGE, PAGES};
-ghost use Rattle.model.specs.State.{plus};
+ghost use Rattle.model.specs.State.{plus, register, with_register};
 ghost use Rattle.model.specs.Rights.{Rights};
-ghost use Rattle.model.specs.Execute.{topped, minus};
+ghost use Rattle.model.specs.Execute.{topped, minus, advanced, jumped};
 ghost use Rattle.exec.specs.declared.instruction.Stop.TheVariants.{Moved};
 ghost use Rattle.exec.specs.Maps.{by_maps};
-ghost use Rattle.exec.specs.Turn.{turn, file_of, performs, turn_of};
+ghost use Rattle.exec.specs.Turn.{turn, performs, turn_of};
 
 use crate::access;
+use crate::rights::Maps;
 use isa::{Fields, codes};
+use model::Registers;
 
 // How an instruction ends: the guest moved on, or what stopped it.
 #[derive(Clone, Copy)]
@@ -30,14 +32,14 @@ pub enum Stop {
 fn plus(a: u32, b: u32) -> u32
     ensures { result ≡ plus a b }
 {
-    std::num::wrapping_add_u32(a, b)
+    a.wrapping_add(b)
 }
 
 #[tactic(auto, unfolding(model::specs::Execute::minus))]
 fn minus(a: u32, b: u32) -> u32
     ensures { result ≡ minus a b }
 {
-    std::num::wrapping_sub_u32(a, b)
+    a.wrapping_sub(b)
 }
 
 #[tactic(auto, unfolding(model::specs::Execute::topped))]
@@ -49,168 +51,130 @@ fn topped(a: u32, k: u32) -> u32
 }
 
 // The word in register i.
-fn get(r: &mut [u32; 8], i: u8) -> u32
+#[tactic(auto, unfolding(model::specs::State::register))]
+fn get(file: &Registers, i: u8) -> u32
     requires { i < 8 }
-    ensures { (result ≡ slice_index r.old i) × (r.new ≡ r.old) }
+    ensures { result ≡ register file.now i }
 {
-    r[i as usize]
+    file.r[i as usize]
 }
 
 // To the next address.
-fn goes_on(pc: &mut u32) -> Stop
-    ensures { (result ≡ Moved) × (pc.new ≡ plus pc.old 1) }
+#[tactic(auto, unfolding(model::specs::Execute::advanced))]
+fn goes_on(file: &mut Registers) -> Stop
+    ensures { (result ≡ Moved) × (file.new ≡ advanced file.old) }
 {
-    *pc = plus(*pc, 1);
+    file.pc = plus(file.pc, 1);
     Stop::Moved
 }
 
 // To the address in Rs.
-fn branch(r: &mut [u32; 8], pc: &mut u32, s: u8) -> Stop
+fn branch(file: &mut Registers, s: u8) -> Stop
     requires { s < 8 }
-    ensures { (result ≡ Moved) × (r.new ≡ r.old) × (pc.new ≡ slice_index r.old s) }
+    ensures { (result ≡ Moved) × (file.new ≡ jumped file.old (register file.old s)) }
 {
-    *pc = get(r, s);
+    file.pc = get(file, s);
     Stop::Moved
 }
 
 // Rd becomes v, and pc goes on.
-fn gets(r: &mut [u32; 8], pc: &mut u32, d: u8, v: u32) -> Stop
+fn gets(file: &mut Registers, d: u8, v: u32) -> Stop
     requires { d < 8 }
-    ensures { (result ≡ Moved) × (r.new ≡ slice_set r.old d v) × (pc.new ≡ plus pc.old 1) }
+    ensures { (result ≡ Moved) × (file.new ≡ advanced (with_register file.old d v)) }
 {
-    r[d as usize] = v;
-    goes_on(pc)
+    file.r[d as usize] = v;
+    goes_on(file)
 }
 
 // Rd becomes the word at Rs, if the guest may load it.
-fn load(r: &mut [u32; 8], pc: &mut u32, d: u8, s: u8, loads: u64, mem: &mut [u32]) -> Stop
+fn load(file: &mut Registers, d: u8, s: u8, maps: Maps, mem: &mut [u32]) -> Stop
     requires { (d < 8) × (s < 8) × (length mem.old ≤ PAGE * PAGES) }
-    ensures { (stores : ℕ) (equal : Bool) →
-        turn result (file_of r.new pc.new equal) mem.new
-        ≡ performs (Ldr d s) (by_maps loads stores) (file_of r.old pc.old equal) mem.old }
+    ensures { turn result file.new mem.new
+        ≡ performs (Ldr d s) (by_maps maps.loads maps.stores) file.old mem.old }
 {
-    let x = get(r, s);
-    if !access::may_reach(loads, mem.len(), x) {
+    let x = get(file, s);
+    if !access::may_reach(maps.loads, mem.len(), x) {
         return Stop::Faulted;
     }
-    let v = mem[x as usize];
-    gets(r, pc, d, v)
+    gets(file, d, mem[x as usize])
 }
 
 // The word at Rs becomes Rd, if the guest may store it.
-fn store(r: &mut [u32; 8], pc: &mut u32, d: u8, s: u8, stores: u64, mem: &mut [u32]) -> Stop
+fn store(file: &mut Registers, d: u8, s: u8, maps: Maps, mem: &mut [u32]) -> Stop
     requires { (d < 8) × (s < 8) × (length mem.old ≤ PAGE * PAGES) }
-    ensures { (loads : ℕ) (equal : Bool) →
-        turn result (file_of r.new pc.new equal) mem.new
-        ≡ performs (Str d s) (by_maps loads stores) (file_of r.old pc.old equal) mem.old }
+    ensures { turn result file.new mem.new
+        ≡ performs (Str d s) (by_maps maps.loads maps.stores) file.old mem.old }
 {
-    let x = get(r, s);
-    if !access::may_reach(stores, mem.len(), x) {
+    let x = get(file, s);
+    if !access::may_reach(maps.stores, mem.len(), x) {
         return Stop::Faulted;
     }
-    let v = get(r, d);
-    mem[x as usize] = v;
-    goes_on(pc)
+    mem[x as usize] = get(file, d);
+    goes_on(file)
 }
 
 // To the address in Rs if the flag is clear.
-fn branch_unless(r: &mut [u32; 8], pc: &mut u32, equal: bool, s: u8) -> Stop
+#[tactic(auto, unfolding(crate::specs::Turn::performs, crate::specs::Turn::ends, model::specs::Execute::perform, model::specs::Execute::gets, model::specs::Memory::loaded))]
+fn branch_unless(file: &mut Registers, s: u8) -> Stop
     requires { s < 8 }
     ensures { (rights : Rights) (memory : List ℕ) →
-        turn result (file_of r.new pc.new equal) memory
-        ≡ performs (Bne s) rights (file_of r.old pc.old equal) memory }
+        turn result file.new memory ≡ performs (Bne s) rights file.old memory }
 {
-    if equal {
-        return goes_on(pc);
+    if file.equal {
+        return goes_on(file);
     }
-    branch(r, pc, s)
+    branch(file, s)
 }
 
 // The flag says whether Rd and Rs are the same word, and pc goes on.
-fn compares(r: &mut [u32; 8], pc: &mut u32, equal: &mut bool, d: u8, s: u8) -> Stop
+#[tactic(auto, unfolding(crate::specs::Turn::performs, crate::specs::Turn::ends, model::specs::Execute::perform, model::specs::Execute::gets, model::specs::Memory::loaded))]
+fn compares(file: &mut Registers, d: u8, s: u8) -> Stop
     requires { (d < 8) × (s < 8) }
     ensures { (rights : Rights) (memory : List ℕ) →
-        turn result (file_of r.new pc.new equal.new) memory
-        ≡ performs (Cmp d s) rights (file_of r.old pc.old equal.old) memory }
+        turn result file.new memory ≡ performs (Cmp d s) rights file.old memory }
 {
-    *equal = get(r, d) == get(r, s);
-    goes_on(pc)
+    file.equal = get(file, d) == get(file, s);
+    goes_on(file)
 }
 
 // What the instruction with these fields does.
 #[tactic(auto, using(crate::proofs::Moves::legal_d, crate::proofs::Moves::legal_s, crate::proofs::Moves::legal_k))]
-fn perform(
-    f: Fields,
-    r: &mut [u32; 8],
-    pc: &mut u32,
-    equal: &mut bool,
-    loads: u64,
-    stores: u64,
-    mem: &mut [u32],
-) -> Stop
+fn perform(f: Fields, file: &mut Registers, maps: Maps, mem: &mut [u32]) -> Stop
     requires { (legal f ≡ true) × (length mem.old ≤ PAGE * PAGES) }
-    ensures { turn result (file_of r.new pc.new equal.new) mem.new
-        ≡ performs (opcode_at f).means (by_maps loads stores)
-        (file_of r.old pc.old equal.old) mem.old }
+    ensures { turn result file.new mem.new
+        ≡ performs (opcode_at f).means (by_maps maps.loads maps.stores) file.old mem.old }
 {
-    let code = f.code;
-    let d = f.d;
-    let s = f.s;
-    let k = f.k;
+    let Fields { code, d, s, k } = f;
     match code {
-        codes::MOVI => gets(r, pc, d, k),
-        codes::MOVT => {
-            let v = topped(get(r, d), k);
-            gets(r, pc, d, v)
-        }
-        codes::MOV => {
-            let v = get(r, s);
-            gets(r, pc, d, v)
-        }
-        codes::LDR => load(r, pc, d, s, loads, mem),
-        codes::STR => store(r, pc, d, s, stores, mem),
-        codes::ADD => {
-            let v = plus(get(r, d), get(r, s));
-            gets(r, pc, d, v)
-        }
-        codes::SUB => {
-            let v = minus(get(r, d), get(r, s));
-            gets(r, pc, d, v)
-        }
-        codes::ADDI => {
-            let v = plus(get(r, d), k);
-            gets(r, pc, d, v)
-        }
-        codes::CMP => compares(r, pc, equal, d, s),
-        codes::BNE => branch_unless(r, pc, *equal, s),
-        codes::BR => branch(r, pc, s),
+        codes::MOVI => gets(file, d, k),
+        codes::MOVT => gets(file, d, topped(get(file, d), k)),
+        codes::MOV => gets(file, d, get(file, s)),
+        codes::LDR => load(file, d, s, maps, mem),
+        codes::STR => store(file, d, s, maps, mem),
+        codes::ADD => gets(file, d, plus(get(file, d), get(file, s))),
+        codes::SUB => gets(file, d, minus(get(file, d), get(file, s))),
+        codes::ADDI => gets(file, d, plus(get(file, d), k)),
+        codes::CMP => compares(file, d, s),
+        codes::BNE => branch_unless(file, s),
+        codes::BR => branch(file, s),
         codes::HVC => Stop::Called,
         _ => Stop::Halted,
     }
 }
 
 // One instruction: the word at pc, if the guest may fetch it and it is one.
-pub fn one(
-    r: &mut [u32; 8],
-    pc: &mut u32,
-    equal: &mut bool,
-    loads: u64,
-    stores: u64,
-    mem: &mut [u32],
-) -> Stop
+pub fn one(file: &mut Registers, maps: Maps, mem: &mut [u32]) -> Stop
     requires { length mem.old ≤ PAGE * PAGES }
-    ensures { turn result (file_of r.new pc.new equal.new) mem.new
-        ≡ turn_of (by_maps loads stores)
-        (file_of r.old pc.old equal.old) mem.old }
+    ensures { turn result file.new mem.new
+        ≡ turn_of (by_maps maps.loads maps.stores) file.old mem.old }
 {
-    let at = *pc;
-    if !access::may_reach(loads, mem.len(), at) {
+    let at = file.pc;
+    if !access::may_reach(maps.loads, mem.len(), at) {
         return Stop::Faulted;
     }
-    let word = mem[at as usize];
-    let f = isa::fields_of(word);
+    let f = isa::fields_of(mem[at as usize]);
     if !isa::legal(f) {
         return Stop::Faulted;
     }
-    perform(f, r, pc, equal, loads, stores, mem)
+    perform(f, file, maps, mem)
 }

@@ -19,33 +19,21 @@ fn with_page(map: u64, allowed: bool) -> u64
     requires { map < 2 ^ 63 }
     ensures { result ≡ with_page map allowed }
 {
-    if allowed {
-        return map * 2 + 1;
-    }
-    map * 2
+    map * 2 + allowed as u64
 }
 
 // The rights of guest g to the first m pages: those that it has access to, but for its own TX page, which it does not
 // load from, and its own RX page, which it does not store to.
-pub fn maps_of(records: [PageRecord; 64], m: u8, g: VmId, own: Mailbox) -> Maps
+pub fn maps_of(records: &[PageRecord; 64], m: u8, g: VmId, own: Mailbox) -> Maps
     requires { (g.0 < GUESTS) × (m ≤ PAGES) }
-    ensures { (result.loads ≡ pages_for records m g own.tx) × (result.stores ≡ pages_for records m g own.rx) }
+    ensures { (result.loads ≡ pages_for records.now m g own.tx) × (result.stores ≡ pages_for records.now m g own.rx) }
 {
-    let tx = own.tx;
-    let rx = own.rx;
     let mut loads: u64 = 0;
     let mut stores: u64 = 0;
-    let mut p = m;
-    while 0 < p {
-        p -= 1;
-        let at = p as usize;
-        let record = records[at];
-        let reached = parts::has(g, record.access);
-        loads = with_page(loads, reached & (p != tx.0));
-        stores = with_page(stores, reached & (p != rx.0));
+    for p in (0..m).rev() {
+        let reached = parts::has(g, records[p as usize].access);
+        loads = with_page(loads, reached & (p != own.tx.0));
+        stores = with_page(stores, reached & (p != own.rx.0));
     }
-    Maps {
-        loads: loads,
-        stores: stores,
-    }
+    Maps { loads, stores }
 }

@@ -1,29 +1,20 @@
 -- Without access nothing changes, with it Rd becomes the word at Rs.
-use Rattle.std.proofs.Common.{ℕ, get_or, refl}
 use Rattle.model.specs.Execute.{perform}
 use Rattle.model.specs.Memory.{loaded}
-use Rattle.model.specs.State.{register}
-use Rattle.exec.proofs.Moves.{asked_false, asked_inside, asked_true, gets_done, one_read}
+use Rattle.exec.proofs.Moves.{asked_false, asked_inside, asked_true, gets_done}
 use Rattle.exec.specs.Turn.{performs}
 use Rattle.exec.proofs.instruction.load.Goals as goal
 
 pub returns-then-not-may_reach : goal.returns-then-not-may_reach
-unfolding performs perform register
-returns-then-not-may_reach c stores equal =
-    asked_false _ _ _ c.get-x.ensures.0 c.may_reach.ensures _ _ c.get-x.ensures.1 c.if-not-may_reach.true
+unfolding performs perform
+returns-then-not-may_reach c = asked_false _ _ _ c.get-x.ensures c.may_reach.ensures _ _ c.if-not-may_reach.true
 
 pub bounds-mem-x : goal.bounds-mem-x
 bounds-mem-x c = asked_inside _ _ _ c.may_reach.ensures c.if-not-may_reach.false
 
 pub returns : goal.returns
-unfolding perform register loaded
-returns c stores equal =
-    gets_done
-    _
-    _
-    _
-    _
-    _
-    (one_read (λ (x : ℕ). get_or c.args.mem.now x 0) _ _ refl c.get-x.ensures)
-    (asked_true _ _ _ c.get-x.ensures.0 c.may_reach.ensures _ c.if-not-may_reach.false)
+unfolding perform loaded
+returns c =
+    gets_done _ _ _ _ _ _
+    (rw c.get-x.ensures (asked_true _ _ _ c.get-x.ensures c.may_reach.ensures _ c.if-not-may_reach.false))
     c.gets.ensures

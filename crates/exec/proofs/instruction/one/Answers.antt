@@ -8,7 +8,7 @@ use Rattle.exec.proofs.instruction.one.Goals as goal
 
 pub returns-then-not-may_reach : goal.returns-then-not-may_reach
 unfolding turn_of guest_step
-returns-then-not-may_reach c = asked_false _ _ _ refl c.may_reach.ensures _ _ refl c.if-not-may_reach.true
+returns-then-not-may_reach c = asked_false _ _ _ refl c.may_reach.ensures _ _ c.if-not-may_reach.true
 
 pub bounds-mem-at : goal.bounds-mem-at
 bounds-mem-at c = asked_inside _ _ _ c.may_reach.ensures c.if-not-may_reach.false

@@ -1,53 +1,42 @@
 -- Each arm does what the instruction of its code does, and the last arm is left with the codes that mean halt.
-use Rattle.std.proofs.Common.{ℕ, refl, arith}
+use Rattle.std.proofs.Common.{arith}
 use Rattle.isa.specs.Opcodes.{opcodes, opcode_at}
-use Rattle.model.specs.State.{plus, register}
-use Rattle.model.specs.Execute.{perform, topped, minus}
+use Rattle.model.specs.Execute.{perform}
 use Rattle.exec.specs.Turn.{ends, performs}
-use Rattle.exec.proofs.Moves.{one_read, two_read, gets_done, branch_done, none_from, halts}
+use Rattle.exec.proofs.Moves.{gets_done, none_from, halts}
 use Rattle.exec.proofs.instruction.perform.Goals as goal
 
 pub returns-in-1 : goal.returns-in-1
 unfolding perform opcode_at opcodes
-returns-in-1 c = gets_done _ _ _ _ _ (refl, refl) (rw c.in-1.is) c.gets.ensures
+returns-in-1 c = gets_done _ _ _ _ _ _ (rw c.in-1.is) c.gets.ensures
 
 pub returns-in-2 : goal.returns-in-2
-unfolding perform opcode_at opcodes register
-returns-in-2 c =
-    let k = c.args.f.k in
-    let read = one_read (λ (a : ℕ). topped a k) _ _ c.topped-v.ensures c.get.ensures in
-    gets_done _ _ _ _ _ read (rw c.in-2.is) c.gets-in-2.ensures
+unfolding perform opcode_at opcodes
+returns-in-2 c = gets_done _ _ _ _ _ _ (rw (c.in-2.is, c.topped.ensures, c.get.ensures)) c.gets-in-2.ensures
 
 pub returns-in-3 : goal.returns-in-3
-unfolding perform opcode_at opcodes register
-returns-in-3 c = gets_done _ _ _ _ _ c.get-v.ensures (rw c.in-3.is) c.gets-in-3.ensures
+unfolding perform opcode_at opcodes
+returns-in-3 c = gets_done _ _ _ _ _ _ (rw (c.in-3.is, c.get-in-3.ensures)) c.gets-in-3.ensures
 
 pub returns-in-4 : goal.returns-in-4
 unfolding opcode_at opcodes
-returns-in-4 c = rw c.in-4.is (c.load.ensures _ _)
+returns-in-4 c = rw c.in-4.is c.load.ensures
 
 pub returns-in-5 : goal.returns-in-5
 unfolding opcode_at opcodes
-returns-in-5 c = rw c.in-5.is (c.store.ensures _ _)
+returns-in-5 c = rw c.in-5.is c.store.ensures
 
 pub returns-in-6 : goal.returns-in-6
-unfolding perform opcode_at opcodes register
-returns-in-6 c =
-    let read = two_read plus _ _ _ c.plus-v.ensures c.get-in-6.ensures c.get-in-6-2.ensures in
-    gets_done _ _ _ _ _ read (rw c.in-6.is) c.gets-in-6.ensures
+unfolding perform opcode_at opcodes
+returns-in-6 c = gets_done _ _ _ _ _ _ (rw (c.in-6.is, c.plus.ensures, c.get-in-6.ensures, c.get-in-6-2.ensures)) c.gets-in-6.ensures
 
 pub returns-in-7 : goal.returns-in-7
-unfolding perform opcode_at opcodes register
-returns-in-7 c =
-    let read = two_read minus _ _ _ c.minus-v.ensures c.get-in-7.ensures c.get-in-7-2.ensures in
-    gets_done _ _ _ _ _ read (rw c.in-7.is) c.gets-in-7.ensures
+unfolding perform opcode_at opcodes
+returns-in-7 c = gets_done _ _ _ _ _ _ (rw (c.in-7.is, c.minus.ensures, c.get-in-7.ensures, c.get-in-7-2.ensures)) c.gets-in-7.ensures
 
 pub returns-in-8 : goal.returns-in-8
-unfolding perform opcode_at opcodes register
-returns-in-8 c =
-    let k = c.args.f.k in
-    let read = one_read (λ (a : ℕ). plus a k) _ _ c.plus-v-in-8.ensures c.get-in-8.ensures in
-    gets_done _ _ _ _ _ read (rw c.in-8.is) c.gets-in-8.ensures
+unfolding perform opcode_at opcodes
+returns-in-8 c = gets_done _ _ _ _ _ _ (rw (c.in-8.is, c.plus-in-8.ensures, c.get-in-8.ensures)) c.gets-in-8.ensures
 
 pub returns-in-9 : goal.returns-in-9
 unfolding opcode_at opcodes
@@ -58,8 +47,8 @@ unfolding opcode_at opcodes
 returns-in-10 c = rw c.in-10.is (c.branch_unless.ensures _ _)
 
 pub returns-in-11 : goal.returns-in-11
-unfolding opcode_at opcodes
-returns-in-11 c = rw c.in-11.is (branch_done _ _ _ _ c.branch-r.ensures)
+unfolding perform performs ends opcode_at opcodes
+returns-in-11 c = rw (c.in-11.is, c.branch-file.ensures.0, c.branch-file.ensures.1)
 
 pub returns-in-12 : goal.returns-in-12
 unfolding perform performs ends opcode_at opcodes

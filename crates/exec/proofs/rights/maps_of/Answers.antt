@@ -6,22 +6,21 @@ use Rattle.exec.proofs.Downward.{pages_none, pages_fit, pages_more, pages_whole}
 use Rattle.exec.proofs.rights.maps_of.Goals as goal
 
 pub loop-p-init : goal.loop-p-init
-loop-p-init c = (omega arith, pages_none _ _ _ _, pages_none _ _ _ _)
+loop-p-init c = (pages_none _ _ _ _, pages_none _ _ _ _)
 
 pub with_page-loads-requires : goal.with_page-loads-requires
-with_page-loads-requires c = pages_fit _ _ _ _ _ (omega arith) c.loop-p-test.true c.loop-p.invariant.1
+with_page-loads-requires c = pages_fit _ _ _ _ _ (omega arith) c.loop-p-test.true c.loop-p.invariant.0
 
 pub with_page-stores-requires : goal.with_page-stores-requires
-with_page-stores-requires c = pages_fit _ _ _ _ _ (omega arith) c.loop-p-test.true c.loop-p.invariant.2
+with_page-stores-requires c = pages_fit _ _ _ _ _ (omega arith) c.loop-p-test.true c.loop-p.invariant.1
 
 pub loop-p-preserved : goal.loop-p-preserved
 unfolding ◌and◌ record_at
 loop-p-preserved c = (
-  omega arith,
-  pages_more _ _ _ _ _ c.loop-p-test.true c.loop-p.invariant.0 c.loop-p.invariant.1 c.has-reached.ensures c.with_page-loads.ensures,
-  pages_more _ _ _ _ _ c.loop-p-test.true c.loop-p.invariant.0 c.loop-p.invariant.2 c.has-reached.ensures c.with_page-stores.ensures,
+  pages_more _ _ _ _ _ c.loop-p-test.true c.loop-p.auto.p c.loop-p.invariant.0 c.has-reached.ensures c.with_page-loads.ensures,
+  pages_more _ _ _ _ _ c.loop-p-test.true c.loop-p.auto.p c.loop-p.invariant.1 c.has-reached.ensures c.with_page-stores.ensures,
 )
 
 pub returns : goal.returns
 returns c =
-    (pages_whole _ _ _ _ _ c.loop-p-test.false c.loop-p.invariant.1, pages_whole _ _ _ _ _ c.loop-p-test.false c.loop-p.invariant.2)
+    (pages_whole _ _ _ _ _ c.loop-p-test.false c.loop-p.invariant.0, pages_whole _ _ _ _ _ c.loop-p-test.false c.loop-p.invariant.1)
