@@ -99,118 +99,116 @@ over {whole} {onlyToCall} {left} {m} {memory} going none =
     let is_zero : left ≡ 0 = omega arith in
     rw is_zero at going.same
 
--- the machine with these registers for its current guest
-abbrev pub with_file : Machine → List ℕ → ℕ → Bool → Machine
-with_file m r pc equal = with_own m (file_of r pc equal)
-
-module _ {whole : Rest} {onlyToCall : Bool} {budget : ℕ} {m : Machine} {stop : Stop} {r : List ℕ} {pc : ℕ} {equal : Bool}
-    {memory : List ℕ} {left : ℕ} (stopped : Stopped whole onlyToCall budget m (burst (turn stop (file_of r pc equal) memory) left)) where
+module _ {whole : Rest} {onlyToCall : Bool} {budget : ℕ} {m : Machine} {stop : Stop} {file : Registers}
+    {memory : List ℕ} {left : ℕ} (stopped : Stopped whole onlyToCall budget m (burst (turn stop file memory) left)) where
   -- No call: the end.
 
-  pub stops : by_call stop ≡ false → {file : Registers} → file ≡ file_of r pc equal
-      → {after : Machine} → after ≡ ended_by stop (with_own m file) → rest (state after memory) left None ≡ whole
+  pub stops : by_call stop ≡ false → {after : Machine} → after ≡ ended_by stop (with_own m file)
+      → rest (state after memory) left None ≡ whole
   unfolding after_burst after_stop
-  stops e put was =
-      ap (λ (k : Machine). rest (state k memory) left None) (rw put at was)
-      ∙ ap (λ (b : Bool). after_stop onlyToCall b stop (state (with_file m r pc equal) memory) left) (sym e)
+  stops e was =
+      ap (λ (k : Machine). rest (state k memory) left None) was
+      ∙ ap (λ (b : Bool). after_stop onlyToCall b stop (state (with_own m file) memory) left) (sym e)
       ∙ stopped.same
 
   -- A call: the caller's pc goes on first.
 
-  own_asked : own_registers (with_file m r (plus pc 1) equal) ≡ file_of r (plus pc 1) equal
-  own_asked = own_same m (file_of r (plus pc 1) equal) stopped.low
+  abbrev asked : Machine
+  asked = with_own m (advanced file)
 
-  asked_low : m.current.0 < length (with_file m r (plus pc 1) equal).registers
+  own_asked : own_registers asked ≡ advanced file
+  own_asked = own_same m (advanced file) stopped.low
+
+  asked_low : m.current.0 < length asked.registers
   unfolding with_own
   asked_low = lt-length-set m.registers m.current.0 _ stopped.low
 
-  asked_fits : Fit (state (with_file m r (plus pc 1) equal) memory)
+  asked_fits : Fit (state asked memory)
+  unfolding advanced
   asked_fits =
-      let eight : length r ≡ 8 = rw (own_same m (file_of r pc equal) stopped.low) at (fit_eight _ memory stopped.fit) in
-      rw (own_again m (file_of r pc equal) (file_of r (plus pc 1) equal)) at
-      (own_fits (with_file m r pc equal) memory (file_of r (plus pc 1) equal) stopped.fit eight)
+      let eight : length file.r ≡ 8 = rw (own_same m file stopped.low) at (fit_eight _ memory stopped.fit) in
+      rw (own_again m file (advanced file)) at (own_fits (with_own m file) memory (advanced file) stopped.fit eight)
 
-  hvc_calls : call_effect (state (with_file m r (plus pc 1) equal) memory) ≡ hvc (state (with_file m r pc equal) memory)
-  unfolding hvc advanced
-  hvc_calls =
-      rw (own_same m (file_of r pc equal) stopped.low, own_again m (file_of r pc equal) (file_of r (plus pc 1) equal))
+  hvc_calls : call_effect (state asked memory) ≡ hvc (state (with_own m file) memory)
+  unfolding hvc
+  hvc_calls = rw (own_same m file stopped.low, own_again m file (advanced file))
 
   -- Yield and Run in place, and every other call: with the caller's registers as `switched` left them.
 
-  module _ {on : ℕ} (goes : on ≡ plus pc 1) {next : Switch} {after : List ℕ} (was : switched next after ≡ switch_of r m.current m.n)
-      {file : Registers} (put : file ≡ file_of after on equal) where
-    switched_to : (way : Switch) → next ≡ way
-        → switch_of (own_registers (with_file m r (plus pc 1) equal)).r m.current m.n ≡ switched way after
+  module _ {next : Switch} {after : List ℕ} (was : switched next after ≡ switch_of file.r m.current m.n) where
+    -- the caller's registers, put back
+    abbrev pub put : Registers
+    put = file_of after (plus file.pc 1) file.equal
+
+    switched_to : (way : Switch) → next ≡ way → switch_of (own_registers asked).r m.current m.n ≡ switched way after
+    unfolding advanced
     switched_to way e = rw (own_asked, ← was, e)
 
-    untouched : after ≡ (own_registers (with_file m r (plus pc 1) equal)).r → with_file m after on equal ≡ with_file m r (plus pc 1) equal
-    untouched e = rw (e, own_asked, goes)
+    untouched : after ≡ (own_registers asked).r → with_own m put ≡ asked
+    unfolding advanced
+    untouched e = rw (e, own_asked)
 
-    other_untouched : next ≡ Other → with_file m after on equal ≡ with_file m r (plus pc 1) equal
+    other_untouched : next ≡ Other → with_own m put ≡ asked
     unfolding with_own
     other_untouched e = untouched (switch_other _ memory asked_low (switched_to Other e))
 
-    pub other_calls : next ≡ Other → call_effect (state (with_own m file) memory) ≡ hvc (state (with_file m r pc equal) memory)
-    other_calls e = rw (put, other_untouched e) hvc_calls
+    pub other_calls : next ≡ Other → call_effect (state (with_own m put) memory) ≡ hvc (state (with_own m file) memory)
+    other_calls e = rw (other_untouched e) hvc_calls
 
-    pub other_fits : next ≡ Other → Fit (state (with_own m file) memory)
-    other_fits e = rw (put, other_untouched e) asked_fits
+    pub other_fits : next ≡ Other → Fit (state (with_own m put) memory)
+    other_fits e = rw (other_untouched e) asked_fits
 
-    pub stay_calls : next ≡ Stay → state (with_own m file) memory ≡ hvc (state (with_file m r pc equal) memory)
-    unfolding with_own
+    pub stay_calls : next ≡ Stay → state (with_own m put) memory ≡ hvc (state (with_own m file) memory)
+    unfolding with_own advanced
     stay_calls e =
-        rw (put, goes)
-        (sym (rw (own_asked, own_again m (file_of r (plus pc 1) equal) (file_of after (plus pc 1) equal)) at
-        (switch_stay (with_file m r (plus pc 1) equal) memory asked_low (switched_to Stay e)))
-        ∙ hvc_calls)
+        sym (rw (own_asked, own_again m (advanced file) put) at (switch_stay asked memory asked_low (switched_to Stay e))) ∙ hvc_calls
 
-    pub to_calls : {g : VmId} → next ≡ To g
-        → state (with_current (with_own m file) g) memory ≡ hvc (state (with_file m r pc equal) memory)
+    pub to_calls : {g : VmId} → next ≡ To g → state (with_current (with_own m put) g) memory ≡ hvc (state (with_own m file) memory)
     unfolding with_own
     to_calls {g} e =
-        rw put (let to = switch_to (with_file m r (plus pc 1) equal) memory asked_low (switched_to (To g) e) in
-        ap (λ (k : Machine). state (with_current k g) memory) (untouched to.0) ∙ sym to.1 ∙ hvc_calls)
+        let to = switch_to asked memory asked_low (switched_to (To g) e) in
+        ap (λ (k : Machine). state (with_current k g) memory) (untouched to.0) ∙ sym to.1 ∙ hvc_calls
 
     pub wake_calls : next ≡ Wake
-        → {first : Registers} → first ≡ told_of (registers_at (with_own m file).registers primary) m.current
-        → state (with_current (with_registers m (set (with_own m file).registers 0 first)) primary) memory
-        ≡ hvc (state (with_file m r pc equal) memory)
-    unfolding with_own
+        → {first : Registers} → first ≡ told_of (registers_at (with_own m put).registers primary) m.current
+        → state (with_current (with_registers m (set (with_own m put).registers 0 first)) primary) memory
+        ≡ hvc (state (with_own m file) memory)
+    unfolding with_own advanced
     wake_calls e told =
-        rw (told, put, goes)
-        (sym (rw (own_asked, set-set m.registers m.current.0 (file_of r (plus pc 1) equal) (file_of after (plus pc 1) equal)) at
-        (switch_wake (with_file m r (plus pc 1) equal) memory asked_low (switched_to Wake e)))
+        rw told
+        (sym (rw (own_asked, set-set m.registers m.current.0 (advanced file) put) at
+        (switch_wake asked memory asked_low (switched_to Wake e)))
         ∙ hvc_calls)
 
   -- After a call.
 
-  module _ (is_call : by_call stop ≡ true) {k : Machine} {last : List ℕ} (did : state k last ≡ hvc (state (with_file m r pc equal) memory)) where
+  module _ (is_call : by_call stop ≡ true) {k : Machine} {last : List ℕ} (did : state k last ≡ hvc (state (with_own m file) memory)) where
     -- which of the two ways on it is
-    after_call : (only : Bool) → onlyToCall ≡ only → after_stop only true stop (state (with_file m r pc equal) memory) left ≡ whole
+    after_call : (only : Bool) → onlyToCall ≡ only → after_stop only true stop (state (with_own m file) memory) left ≡ whole
     unfolding after_burst
     after_call only which =
-        ap (λ (b : Bool). after_stop only b stop (state (with_file m r pc equal) memory) left) (sym is_call)
-        ∙ ap (λ (b : Bool). after_stop b (by_call stop) stop (state (with_file m r pc equal) memory) left) (sym which)
+        ap (λ (b : Bool). after_stop only b stop (state (with_own m file) memory) left) (sym is_call)
+        ∙ ap (λ (b : Bool). after_stop b (by_call stop) stop (state (with_own m file) memory) left) (sym which)
         ∙ stopped.same
 
     -- the end, if only the way to the call is wanted
-    pub made : onlyToCall ≡ true → rest (state k last) left (Some (made m.current (get_or r 0 0))) ≡ whole
+    pub made : onlyToCall ≡ true → rest (state k last) left (Some (made m.current (get_or file.r 0 0))) ≡ whole
     unfolding after_stop with_own argument register
     made only =
-        let r0 : get_or r 0 0 ≡ argument (with_file m r pc equal) 0 =
-        ap (λ (own : Registers). register own 0) (sym (own_same m (file_of r pc equal) stopped.low)) in
+        let r0 : get_or file.r 0 0 ≡ argument (with_own m file) 0 =
+        ap (λ (own : Registers). register own 0) (sym (own_same m file stopped.low)) in
         rw (did, r0) (after_call true only)
 
     -- and else the next round
     pub again : onlyToCall ≡ false → Going whole onlyToCall left k last
     unfolding after_stop with_own
     again only =
-        let called : state k last ≡ call_effect (state (with_file m r (plus pc 1) equal) memory) = did ∙ sym hvc_calls in
+        let called : state k last ≡ call_effect (state asked memory) = did ∙ sym hvc_calls in
         record {
           fit = rw called (call_keeps_sound _ asked_fits).fit;
           normal =
               ap (λ (t : State). is_normal t.machine.mode) called
-              ∙ ap is_normal (call_mode (state (with_file m r (plus pc 1) equal) memory))
+              ∙ ap is_normal (call_mode (state asked memory))
               ∙ stopped.normal;
           same = rw (did, only) (after_call false only);
         }

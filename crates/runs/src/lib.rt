@@ -4,13 +4,13 @@
 
 ghost use Rattle.std.specs.Prelude.{◌≡◌, ℕ, ◌*◌, true, List, length};
 ghost use Rattle.model.specs.Constants.{PAGE};
-ghost use Rattle.model.specs.State.{state, with_mode, is_normal};
+ghost use Rattle.model.specs.State.{state, is_normal};
 ghost use Rattle.model.specs.Sound.{sound};
 ghost use Rattle.model.specs.declared.NextCall.TheVariants.{None};
-ghost use Rattle.exec.specs.Turn.{file_of};
 ghost use Rattle.runs.specs.Advance.{rest, rest_of, advance_of, by_call, ended_by, told_of};
 
 use exec::instruction::Stop;
+use exec::rights::Maps;
 use exec::switch::Switch;
 use exec::{burst, rights, switch};
 use model::{Machine, Mode, NextCall, Registers, VmId};
@@ -29,35 +29,7 @@ pub struct Advanced {
 fn is_called(stop: Stop) -> bool
     ensures { result ≡ by_call stop }
 {
-    match stop {
-        Stop::Moved => false,
-        Stop::Called => true,
-        Stop::Faulted => false,
-        Stop::Halted => false,
-    }
-}
-
-// The machine in another mode.
-fn with_mode(machine: Machine, mode: Mode) -> Machine
-    ensures { result ≡ with_mode machine mode }
-{
-    let registers = machine.registers;
-    let mailboxes = machine.mailboxes;
-    let inboxes = machine.inboxes;
-    let records = machine.records;
-    let transactions = machine.transactions;
-    let current = machine.current;
-    Machine {
-        n: machine.n,
-        m: machine.m,
-        registers: registers,
-        mailboxes: mailboxes,
-        inboxes: inboxes,
-        records: records,
-        transactions: transactions,
-        current: current,
-        mode: mode,
-    }
+    matches!(stop, Stop::Called)
 }
 
 // The machine once its guest has stopped without a call: a fault and a halt change the mode.
@@ -66,21 +38,15 @@ fn ended(machine: Machine, stop: Stop) -> Machine
     ensures { result ≡ ended_by stop machine }
 {
     match stop {
-        Stop::Moved => machine,
-        Stop::Called => machine,
-        Stop::Faulted => with_mode(machine, Mode::Fault),
-        Stop::Halted => with_mode(machine, Mode::Halted),
-    }
-}
-
-// A guest's registers, put together again.
-fn file_of(r: [u32; 8], pc: u32, equal: bool) -> Registers
-    ensures { result ≡ file_of r pc equal }
-{
-    Registers {
-        r: r,
-        pc: pc,
-        equal: equal,
+        Stop::Moved | Stop::Called => machine,
+        Stop::Faulted => Machine {
+            mode: Mode::Fault,
+            ..machine
+        },
+        Stop::Halted => Machine {
+            mode: Mode::Halted,
+            ..machine
+        },
     }
 }
 
@@ -89,8 +55,8 @@ fn over(machine: Machine, left: u32) -> Advanced
     ensures { (memory : List ℕ) → rest_of result memory ≡ rest (state machine memory) left None }
 {
     Advanced {
-        machine: machine,
-        left: left,
+        machine,
+        left,
         call: NextCall::None,
     }
 }
@@ -115,57 +81,50 @@ pub fn advance(machine: Machine, mem: &mut [u32], budget: u32, to_call: bool) ->
 {
     let mut m = machine;
     let mut left = budget;
-    let mut fresh: [bool; 8] = [false; 8];
+    let mut fresh = [false; 8];
     let mut loads = [0u64; 8];
     let mut stores = [0u64; 8];
     while 0 < left {
         let caller = m.current;
         let at = caller.0 as usize;
         if !fresh[at] {
-            let records = m.records;
-            let mailbox = m.mailboxes[at];
-            let maps = rights::maps_of(records, m.m, caller, mailbox);
+            let maps = rights::maps_of(&m.records, m.m, caller, m.mailboxes[at]);
             loads[at] = maps.loads;
             stores[at] = maps.stores;
             fresh[at] = true;
         }
-        let own = m.registers[at];
-        let mut r = own.r;
-        let b = burst::burst(&mut r, own.pc, own.equal, loads[at], stores[at], left, mem);
+        let maps = Maps {
+            loads: loads[at],
+            stores: stores[at],
+        };
+        let mut file = m.registers[at];
+        let b = burst::burst(&mut file, maps, left, mem);
         left = b.left;
-        let stop = b.stop;
-        let r0 = r[0];
-        if !is_called(stop) {
-            m.registers[at] = file_of(r, b.pc, b.equal);
-            return over(ended(m, stop), left);
+        let r0 = file.r[0];
+        if !is_called(b.stop) {
+            m.registers[at] = file;
+            return over(ended(m, b.stop), left);
         }
-        let next = switch::switched(&mut r, caller, m.n);
-        m.registers[at] = file_of(r, std::num::wrapping_add_u32(b.pc, 1), b.equal);
+        let next = switch::switched(&mut file.r, caller, m.n);
+        file.pc = file.pc.wrapping_add(1);
+        m.registers[at] = file;
         match next {
             Switch::Other => {
-                let after = calls::call(m, mem);
-                m = after;
+                m = calls::call(m, mem);
                 fresh = [false; 8];
             }
             Switch::Stay => {}
             Switch::Wake => {
-                let first = m.registers[0];
-                m.registers[0] = told(first, caller);
-                let primary = VmId(0);
-                m.current = primary;
+                m.registers[0] = told(m.registers[0], caller);
+                m.current = VmId(0);
             }
-            Switch::To(g) => {
-                m.current = g;
-            }
+            Switch::To(g) => m.current = g,
         }
         if to_call {
             return Advanced {
                 machine: m,
-                left: left,
-                call: NextCall::Made {
-                    caller: caller,
-                    r0: r0,
-                },
+                left,
+                call: NextCall::Made { caller, r0 },
             };
         }
     }

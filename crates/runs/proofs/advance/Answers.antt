@@ -5,7 +5,7 @@ use Rattle.model.proofs.Typed.{typed_shaped}
 use Rattle.model.specs.State.{mailbox_at, own_registers, plus, registers_at, state}
 use Rattle.model.specs.Step.{hvc, with_own}
 use Rattle.runs.proofs.Ready.{ReadyNow, none_marked, ready_none, stale}
-use Rattle.runs.proofs.Rounds.{Met, again, burst_less, made, maps_kept, maps_made, meets, other_calls, other_fits, over, stay_calls, stops, to_calls, turned, wake_calls, with_file}
+use Rattle.runs.proofs.Rounds.{Met, again, burst_less, made, maps_kept, maps_made, meets, other_calls, other_fits, over, stay_calls, stops, to_calls, turned, wake_calls}
 use Rattle.runs.proofs.advance.Goals as goal
 use Rattle.runs.proofs.advance.Goals.{else-not-fresh-at, in-Other, in-Stay, in-To, in-Wake, then-not-fresh-at}
 
@@ -32,11 +32,11 @@ returns-then-not-is_called c =
     in
     let stopped = turned begun kept c.burst-b.ensures c.loop-left-test.true in
     c.over.ensures _
-    ∙ stops stopped (sym c.is_called.ensures ∙ c.if-not-is_called.true) c.file_of.ensures c.ended.ensures
+    ∙ stops stopped (sym c.is_called.ensures ∙ c.if-not-is_called.true) c.ended.ensures
 
-pub call-after-requires : goal.call-after-requires
+pub call-m-requires : goal.call-m-requires
 unfolding mailbox_at own_registers registers_at with_own plus
-call-after-requires c =
+call-m-requires c =
     let begun = c.loop-left.invariant in
     let kept : ReadyNow c.loop-left.m c.if-not-fresh-at.fresh c.if-not-fresh-at.loads c.if-not-fresh-at.stores =
     elim c.if-not-fresh-at.branch [
@@ -45,9 +45,7 @@ call-after-requires c =
     ]
     in
     let stopped = turned begun kept c.burst-b.ensures c.loop-left-test.true in
-    let fit =
-    other_fits stopped c.wrapping_add_u32.ensures.value c.switched-next.ensures c.file_of-in-loop-left.ensures c.in-Other.is
-    in
+    let fit = other_fits stopped c.switched-next.ensures c.in-Other.is in
     (holds_sound _ fit.sound, fit.whole)
 
 pub returns-then-to_call : goal.returns-then-to_call
@@ -62,21 +60,19 @@ returns-then-to_call c =
     in
     let stopped = turned begun kept c.burst-b.ensures c.loop-left-test.true in
     let called = sym c.is_called.ensures ∙ c.if-not-is_called.false in
-    let goes = c.wrapping_add_u32.ensures.value in
     let was = c.switched-next.ensures in
-    let put = c.file_of-in-loop-left.ensures in
     let met :
     Met
-    (hvc (state (with_file c.loop-left.m c.burst-b.new.r c.burst-b.result.pc c.burst-b.result.equal) c.burst-b.new.mem)) (length c.args.mem.now)
+    (hvc (state (with_own c.loop-left.m c.burst-b.new.file) c.burst-b.new.mem)) (length c.args.mem.now)
     c.if-not-fresh-at.loads c.if-not-fresh-at.stores c.match-next.m c.match-next.mem c.match-next.fresh =
     elim c.match-next.branch [
       | in-Other w ↦
           meets w.mem-is w.m-is w.fresh-is
-          (w.call-after.ensures ∙ other_calls stopped goes was put w.in-Other.is) (omega arith) (stale c.loop-left.m w.call-after.result kept.0)
-      | in-Stay w ↦ meets w.mem-is w.m-is w.fresh-is (stay_calls stopped goes was put w.in-Stay.is) (omega arith) kept.0
+          (w.call-m.ensures ∙ other_calls stopped was w.in-Other.is) (omega arith) (stale c.loop-left.m w.call-m.result kept.0)
+      | in-Stay w ↦ meets w.mem-is w.m-is w.fresh-is (stay_calls stopped was w.in-Stay.is) (omega arith) kept.0
       | in-Wake w ↦
-          meets w.mem-is w.m-is w.fresh-is (wake_calls stopped goes was put w.in-Wake.is w.told.ensures) (omega arith) kept.0
-      | in-To w ↦ meets w.mem-is w.m-is w.fresh-is (to_calls stopped goes was put w.in-To.is) (omega arith) kept.0
+          meets w.mem-is w.m-is w.fresh-is (wake_calls stopped was w.in-Wake.is w.told.ensures) (omega arith) kept.0
+      | in-To w ↦ meets w.mem-is w.m-is w.fresh-is (to_calls stopped was w.in-To.is) (omega arith) kept.0
     ]
     in
     made stopped called met.did c.if-to_call.true
@@ -96,21 +92,19 @@ loop-left-preserved c =
     in
     let stopped = turned begun kept c.burst-b.ensures c.loop-left-test.true in
     let called = sym c.is_called.ensures ∙ c.if-not-is_called.false in
-    let goes = c.wrapping_add_u32.ensures.value in
     let was = c.switched-next.ensures in
-    let put = c.file_of-in-loop-left.ensures in
     let met :
     Met
-    (hvc (state (with_file c.loop-left.m c.burst-b.new.r c.burst-b.result.pc c.burst-b.result.equal) c.burst-b.new.mem)) (length c.args.mem.now)
+    (hvc (state (with_own c.loop-left.m c.burst-b.new.file) c.burst-b.new.mem)) (length c.args.mem.now)
     c.if-not-fresh-at.loads c.if-not-fresh-at.stores c.match-next.m c.match-next.mem c.match-next.fresh =
     elim c.match-next.branch [
       | in-Other w ↦
           meets w.mem-is w.m-is w.fresh-is
-          (w.call-after.ensures ∙ other_calls stopped goes was put w.in-Other.is) (omega arith) (stale c.loop-left.m w.call-after.result kept.0)
-      | in-Stay w ↦ meets w.mem-is w.m-is w.fresh-is (stay_calls stopped goes was put w.in-Stay.is) (omega arith) kept.0
+          (w.call-m.ensures ∙ other_calls stopped was w.in-Other.is) (omega arith) (stale c.loop-left.m w.call-m.result kept.0)
+      | in-Stay w ↦ meets w.mem-is w.m-is w.fresh-is (stay_calls stopped was w.in-Stay.is) (omega arith) kept.0
       | in-Wake w ↦
-          meets w.mem-is w.m-is w.fresh-is (wake_calls stopped goes was put w.in-Wake.is w.told.ensures) (omega arith) kept.0
-      | in-To w ↦ meets w.mem-is w.m-is w.fresh-is (to_calls stopped goes was put w.in-To.is) (omega arith) kept.0
+          meets w.mem-is w.m-is w.fresh-is (wake_calls stopped was w.in-Wake.is w.told.ensures) (omega arith) kept.0
+      | in-To w ↦ meets w.mem-is w.m-is w.fresh-is (to_calls stopped was w.in-To.is) (omega arith) kept.0
     ]
     in
     (again stopped called met.did c.if-to_call.false, (met.ready, met.long))
