@@ -1,8 +1,9 @@
 -- One round of a run: a burst of the current guest, and then the end, or its call in the way in which the code makes it.
 -- Assumes nothing.
 use Rattle.model.specs.ToCall.{made}
-use Rattle.std.specs.Prelude.{None, Some}
-use Rattle.std.proofs.Common.{◌≡◌, ℕ, ◌<◌, ◌≤◌, Bool, true, false, List, length, get_or, set, sym, ap, ◌∙◌, arith, set-set, lt-length-set}
+use Rattle.std.specs.Prelude.{Option, None, Some}
+use Rattle.std.proofs.Common.{◌≡◌, ℕ, ◌<◌, ◌≤◌, Bool, true, false, List, length, get_or, set, sym, ap, ◌∙◌, arith, set-set, lt-length-set, Option, Some}
+use Rattle.std.specs.declared.option.Option.TheVariants as option
 use Rattle.model.specs.declared.VmId.{VmId}
 use Rattle.model.specs.declared.Registers.{Registers}
 use Rattle.model.specs.declared.Machine.{Machine}
@@ -16,6 +17,7 @@ use Rattle.model.proofs.Kept.{call_keeps_sound}
 use Rattle.exec.specs.declared.instruction.Stop.{Stop}
 use Rattle.exec.specs.declared.switch.Switch.{Switch}
 use Rattle.exec.specs.declared.switch.Switch.TheVariants.{Other, Stay, Wake, To}
+use Rattle.exec.specs.declared.rights.Maps.{Maps}
 use Rattle.exec.specs.Maps.{by_maps, pages_for}
 use Rattle.exec.specs.Turn.{turn, file_of}
 use Rattle.exec.specs.Burst.{Burst, burst, burst_of}
@@ -25,7 +27,7 @@ use Rattle.exec.proofs.Bursts.{burst_rights}
 use Rattle.runs.proofs.Resumes.{own_again, resumes}
 use Rattle.runs.proofs.Effects.{switch_other, switch_stay, switch_to, switch_wake}
 use Rattle.runs.proofs.Fits.{current_file, own_same, own_fits, fit_eight, burst_fits, burst_takes, call_mode, current_below}
-use Rattle.runs.proofs.Ready.{MapsOf, ReadyFor, ReadyNow, now_made, now_kept}
+use Rattle.runs.proofs.Ready.{MapsOf, ReadyFor, ready_more}
 
 -- before a burst: what is left to be run is the rest of the whole
 pub record Going (whole : Rest) (onlyToCall : Bool) (left : ℕ) (m : Machine) (memory : List ℕ) : Type 0 where
@@ -42,14 +44,14 @@ pub record Stopped (whole : Rest) (onlyToCall : Bool) (budget : ℕ) (m : Machin
   pub same : after_burst onlyToCall m b ≡ whole
 
 module _ {whole : Rest} {onlyToCall : Bool} {budget : ℕ} {m : Machine} {memory : List ℕ} (going : Going whole onlyToCall budget m memory)
-    {loads stores : ℕ} (maps : MapsOf m.records m.m m.mailboxes m.current.0 loads stores)
-    {b : Burst} (was : b ≡ burst_of (by_maps loads stores) budget (own_registers m) memory) where
+    {maps : Maps} (of_own : MapsOf m.records m.m m.mailboxes m.current.0 maps)
+    {b : Burst} (was : b ≡ burst_of (by_maps maps.loads maps.stores) budget (own_registers m) memory) where
   -- the burst, with the rights of the machine
   by_rights : b ≡ burst_of (rights m) budget (own_registers m) memory
   unfolding own_mailbox
   by_rights =
       was
-      ∙ rw (maps.by_tx, maps.by_rx) (burst_rights m budget (own_registers m) memory going.fit.whole)
+      ∙ rw (of_own.by_tx, of_own.by_rx) (burst_rights m budget (own_registers m) memory going.fit.whole)
 
   pub bursts : 0 < budget → Stopped whole onlyToCall budget m b
   bursts some =
@@ -64,27 +66,23 @@ module _ {whole : Rest} {onlyToCall : Bool} {budget : ℕ} {m : Machine} {memory
             ∙ going.same;
       }
 
--- A turn: the maps of the current guest are made, or they are there; and then its burst.
+-- The maps of the current guest: those that are kept, or made ones.
 
-module _ {whole : Rest} {onlyToCall : Bool} {budget size : ℕ} {m : Machine} {memory : List ℕ} {marks : List Bool} {loads stores : List ℕ}
-    (begun : Going whole onlyToCall budget m memory × (ReadyFor m marks loads stores × (length memory ≡ size)))
-    {marks' : List Bool} {loads' stores' : List ℕ} where
-  pub maps_made : {load store : ℕ}
-      → (load ≡ pages_for m.records m.m m.current (mailbox_at m.mailboxes m.current).tx)
-      × (store ≡ pages_for m.records m.m m.current (mailbox_at m.mailboxes m.current).rx)
-      → marks' ≡ set marks m.current.0 true → loads' ≡ set loads m.current.0 load → stores' ≡ set stores m.current.0 store
-      → ReadyNow m marks' loads' stores'
-  unfolding mailbox_at
-  maps_made maps e f g = now_made m begun.1.0 (current_below begun.0.fit) (record { by_tx = maps.0; by_rx = maps.1 }) e f g
+module _ {whole : Rest} {onlyToCall : Bool} {budget size : ℕ} {m : Machine} {memory : List ℕ} {kept : List (Option Maps)}
+    (begun : Going whole onlyToCall budget m memory × (ReadyFor m kept × (length memory ≡ size))) {maps : Maps} where
+  pub maps_kept : {found : Maps} → get_or kept m.current.0 option.None ≡ Some found → maps ≡ found
+      → MapsOf m.records m.m m.mailboxes m.current.0 maps
+  maps_kept is e = rw e (begun.1.0.of_kept m.current.0 _ is)
 
-  pub maps_kept : get_or marks m.current.0 false ≡ true → marks' ≡ marks → loads' ≡ loads → stores' ≡ stores
-      → ReadyNow m marks' loads' stores'
-  maps_kept is e f g = now_kept m begun.1.0 is e f g
+  pub maps_made : {made : Maps}
+      → (made.loads ≡ pages_for m.records m.m m.current (mailbox_at m.mailboxes m.current).tx)
+      × (made.stores ≡ pages_for m.records m.m m.current (mailbox_at m.mailboxes m.current).rx)
+      → maps ≡ made → MapsOf m.records m.m m.mailboxes m.current.0 maps
+  maps_made is e = rw e (record { by_tx = is.0; by_rx = is.1 })
 
-  pub turned : {b : Burst} → ReadyNow m marks' loads' stores'
-      → b ≡ burst_of (by_maps (get_or loads' m.current.0 0) (get_or stores' m.current.0 0)) budget (own_registers m) memory
-      → 0 < budget → Stopped whole onlyToCall budget m b
-  turned now was some = bursts begun.0 (now.0.of_marked _ now.1) was some
+  -- they are kept from now on
+  pub own_kept : MapsOf m.records m.m m.mailboxes m.current.0 maps → ReadyFor m (set kept m.current.0 (Some maps))
+  own_kept own = ready_more m (current_below begun.0.fit) own begun.1.0
 
 -- a burst takes something of its budget
 pub burst_less : (rights : Rights) (budget : ℕ) (file : Registers) (memory : List ℕ) {b : Burst} → b ≡ burst_of rights budget file memory
@@ -215,14 +213,14 @@ module _ {whole : Rest} {onlyToCall : Bool} {budget : ℕ} {m : Machine} {stop :
 
 -- Where the ways of a call meet: what it did, and what is kept for the next round.
 
-pub record Met (after : State) (size : ℕ) (loads stores : List ℕ) (m : Machine) (memory : List ℕ) (marks : List Bool) : Type 0 where
+pub record Met (after : State) (size : ℕ) (m : Machine) (memory : List ℕ) (kept : List (Option Maps)) : Type 0 where
   pub did : state m memory ≡ after
   pub long : length memory ≡ size
-  pub ready : ReadyFor m marks loads stores
+  pub ready : ReadyFor m kept
 
-pub meets : {after : State} {size : ℕ} {loads stores : List ℕ} {m k : Machine} {memory last : List ℕ} {marks marked : List Bool}
-    → memory ≡ last → m ≡ k → marks ≡ marked
-    → state k last ≡ after → length last ≡ size → ReadyFor k marked loads stores → Met after size loads stores m memory marks
-meets {after} {size} {loads} {stores} {m} {k} {memory} {last} {marks} {marked} e f g did long ready =
-    let met : Met after size loads stores k last marked = record { did = did; long = long; ready = ready } in
+pub meets : {after : State} {size : ℕ} {m k : Machine} {memory last : List ℕ} {kept now : List (Option Maps)}
+    → memory ≡ last → m ≡ k → kept ≡ now
+    → state k last ≡ after → length last ≡ size → ReadyFor k now → Met after size m memory kept
+meets {after} {size} {m} {k} {memory} {last} {kept} {now} e f g did long ready =
+    let met : Met after size k last now = record { did = did; long = long; ready = ready } in
     rw (e, f, g) met

@@ -32,21 +32,15 @@ fn is_called(stop: Stop) -> bool
     matches!(stop, Stop::Called)
 }
 
-// The machine once its guest has stopped without a call: a fault and a halt change the mode.
+// A machine whose guest has stopped without a call: a fault and a halt change the mode.
 #[tactic(auto, unfolding(crate::specs::Advance::ended_by))]
-fn ended(machine: Machine, stop: Stop) -> Machine
-    ensures { result ≡ ended_by stop machine }
+fn ends(machine: &mut Machine, stop: Stop)
+    ensures { machine.new ≡ ended_by stop machine.old }
 {
     match stop {
-        Stop::Moved | Stop::Called => machine,
-        Stop::Faulted => Machine {
-            mode: Mode::Fault,
-            ..machine
-        },
-        Stop::Halted => Machine {
-            mode: Mode::Halted,
-            ..machine
-        },
+        Stop::Moved | Stop::Called => {}
+        Stop::Faulted => machine.mode = Mode::Fault,
+        Stop::Halted => machine.mode = Mode::Halted,
     }
 }
 
@@ -61,15 +55,13 @@ fn over(machine: Machine, left: u32) -> Advanced
     }
 }
 
-// Guest 0's registers once a secondary has yielded.
+// Guest 0 is told which secondary has yielded.
 #[tactic(auto, unfolding(crate::specs::Advance::told_of))]
-fn told(first: Registers, caller: VmId) -> Registers
-    ensures { result ≡ told_of first caller }
+fn tell(first: &mut Registers, caller: VmId)
+    ensures { first.new ≡ told_of first.old caller }
 {
-    let mut file = first;
-    file.r[0] = codes::YIELD;
-    file.r[1] = caller.0 as u32;
-    file
+    first.r[0] = codes::YIELD;
+    first.r[1] = caller.0 as u32;
 }
 
 // Steps while the budget lasts and the mode is normal; up to and including the next call if only that is wanted. A round is a
@@ -81,29 +73,23 @@ pub fn advance(machine: Machine, mem: &mut [u32], budget: u32, to_call: bool) ->
 {
     let mut m = machine;
     let mut left = budget;
-    let mut fresh = [false; 8];
-    let mut loads = [0u64; 8];
-    let mut stores = [0u64; 8];
+    let mut kept: [Option<Maps>; 8] = [None; 8];
     while 0 < left {
         let caller = m.current;
         let at = caller.0 as usize;
-        if !fresh[at] {
-            let maps = rights::maps_of(&m.records, m.m, caller, m.mailboxes[at]);
-            loads[at] = maps.loads;
-            stores[at] = maps.stores;
-            fresh[at] = true;
-        }
-        let maps = Maps {
-            loads: loads[at],
-            stores: stores[at],
+        let maps = match kept[at] {
+            Some(maps) => maps,
+            None => rights::maps_of(&m.records, m.m, caller, m.mailboxes[at]),
         };
+        kept[at] = Some(maps);
         let mut file = m.registers[at];
         let b = burst::burst(&mut file, maps, left, mem);
         left = b.left;
         let r0 = file.r[0];
         if !is_called(b.stop) {
             m.registers[at] = file;
-            return over(ended(m, b.stop), left);
+            ends(&mut m, b.stop);
+            return over(m, left);
         }
         let next = switch::switched(&mut file.r, caller, m.n);
         file.pc = file.pc.wrapping_add(1);
@@ -111,11 +97,11 @@ pub fn advance(machine: Machine, mem: &mut [u32], budget: u32, to_call: bool) ->
         match next {
             Switch::Other => {
                 m = calls::call(m, mem);
-                fresh = [false; 8];
+                kept = [None; 8];
             }
             Switch::Stay => {}
             Switch::Wake => {
-                m.registers[0] = told(m.registers[0], caller);
+                tell(&mut m.registers[0], caller);
                 m.current = VmId(0);
             }
             Switch::To(g) => m.current = g,

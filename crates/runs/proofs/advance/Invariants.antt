@@ -11,7 +11,7 @@ use Rattle.runs.proofs.advance.Given as goal
 abbrev pub invariant-loop-left : goal.invariant-loop-left
 invariant-loop-left l =
     Going (advance_of l.to_call l.fn.budget (state l.fn.machine l.fn.mem)) l.to_call l.left l.m l.mem
-    × (ReadyFor l.m l.fresh l.loads l.stores × (length l.mem ≡ length l.fn.mem))
+    × (ReadyFor l.m l.kept × (length l.mem ≡ length l.fn.mem))
 
 abbrev pub decreases-loop-left : goal.decreases-loop-left
 decreases-loop-left l = l.left
