@@ -1,11 +1,11 @@
 -- What an instruction leaves, from what the code did: a register that is set, a jump, a comparison, an access that is denied
 -- or allowed, a word that is an instruction or none.
-use Rattle.std.proofs.Common.{◌≡◌, ℕ, zero, suc, ◌<◌, ◌≤◌, Bool, true, false, eqb, List, length, get_or, set, sym, refl, ap, ◌∙◌, arith, eqb-true}
+use Rattle.std.proofs.Common.{◌≡◌, ℕ, zero, suc, ◌<◌, ◌≤◌, Bool, true, false, eqb, List, length, sym, refl, ap, ◌∙◌, arith, eqb-true}
 use borrow.Author.Tests.{eqb-false}
 use Rattle.isa.specs.declared.Fields.{Fields}
 use Rattle.isa.specs.declared.Opcode.{Opcode}
 use Rattle.isa.specs.declared.Instruction.{Instruction}
-use Rattle.isa.specs.declared.Instruction.TheVariants.{Cmp, Bne, Br, Halt}
+use Rattle.isa.specs.declared.Instruction.TheVariants.{Halt}
 use Rattle.isa.specs.Opcodes.{opcodes, opcode_at}
 use Rattle.isa.specs.Word.{fields_of, legal}
 use Rattle.isa.specs.Decode.{meaning_of, decode_of}
@@ -18,7 +18,7 @@ use Rattle.model.specs.Execute.{Move, moved, advanced, gets, if_allowed, perform
 use Rattle.exec.specs.declared.instruction.Stop.{Stop}
 use Rattle.exec.specs.declared.instruction.Stop.TheVariants.{Moved, Faulted}
 use Rattle.exec.specs.Maps.{may_reach, allowed_by, by_maps}
-use Rattle.exec.specs.Turn.{Turn, turn, file_of, ends, performs, turn_of}
+use Rattle.exec.specs.Turn.{Turn, turn, ends, performs, turn_of}
 use Rattle.exec.proofs.Reach.{reach_inside, reach_true, reach_false}
 
 -- The fields of an instruction, in the form that `search` takes: registers' numbers, and 16 bits.

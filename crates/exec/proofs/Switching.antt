@@ -1,15 +1,15 @@
--- The ways out of Yield and Run over the caller's registers, and what each leaves. Each law begins with the test that leads there.
-use Rattle.std.proofs.Common.{◌≡◌, ℕ, zero, suc, true, false, not, ltb, leb, List, get_or, set, refl, arith, ne_eqb, le-leb}
+-- The ways out of Run over the caller's registers, and what each leaves. Each law begins with the test that leads there.
+use Rattle.std.proofs.Common.{◌≡◌, ℕ, zero, suc, true, false, not, ltb, leb, List, get_or, refl, arith, ne_eqb, le-leb}
 use Rattle.isa.specs.Tests.{◌and◌}
 use Rattle.isa.proofs.Tests.{and_intro, and_false, true_not, false_not}
 use Rattle.parts.specs.Numbers.{vm_of}
 use Rattle.parts.specs.declared.numbers.SomeVm.TheVariants.{Nobody, Vm}
 use Rattle.parts.proofs.Named.{vm_found, no_vm}
 use Rattle.model.specs.declared.VmId.{VmId}
-use Rattle.model.specs.Constants.{SUCCESS, YIELD, RUN, DENIED, INVALID}
+use Rattle.model.specs.Constants.{DENIED, INVALID}
 use Rattle.model.specs.State.{vm, same_vm, is_primary}
-use Rattle.exec.specs.declared.switch.Switch.TheVariants.{Other, Stay, Wake, To}
-use Rattle.exec.specs.Switch.{switched, refused_with, yield_switch, run_switch, switch_of}
+use Rattle.exec.specs.declared.switch.Switch.TheVariants.{To}
+use Rattle.exec.specs.Switch.{switched, refused_with, run_switch}
 
 -- a word names the primary at 0 only
 above_primary : (w : ℕ) → leb 1 w ≡ not (is_primary (vm w))
@@ -17,20 +17,7 @@ unfolding is_primary same_vm
 above_primary zero = refl
 above_primary (suc w) = rw (le-leb 1 (suc w) (omega arith), ne_eqb (suc w) 0 (λ q. omega arith))
 
-module _ (r : List ℕ) (caller : VmId) where
-  -- Yield
-
-  pub yield_by_primary : is_primary caller ≡ true → switched Stay (set r 0 SUCCESS) ≡ yield_switch r caller
-  unfolding yield_switch
-  yield_by_primary e = rw e
-
-  pub yield_by_secondary : is_primary caller ≡ false → switched Wake (set r 0 SUCCESS) ≡ yield_switch r caller
-  unfolding yield_switch
-  yield_by_secondary e = rw e
-
 module _ (r : List ℕ) (caller : VmId) (n : ℕ) where
-  -- Run
-
   pub run_by_secondary : is_primary caller ≡ false → refused_with r DENIED ≡ run_switch r caller n
   unfolding run_switch
   run_by_secondary e = rw e
@@ -58,17 +45,3 @@ module _ (r : List ℕ) (caller : VmId) (n : ℕ) where
       let guest = vm_found (get_or r 1 0) n named in
       let high : leb 1 (get_or r 1 0) ≡ true = rw (above_primary (get_or r 1 0), guest.1) (false_not e) in
       rw (← guest.1, by, and_intro high guest.0)
-
-  -- The choice by R0.
-
-  pub chooses_yield : get_or r 0 0 ≡ YIELD → yield_switch r caller ≡ switch_of r caller n
-  unfolding switch_of
-  chooses_yield e = rw e
-
-  pub chooses_run : get_or r 0 0 ≡ RUN → run_switch r caller n ≡ switch_of r caller n
-  unfolding switch_of
-  chooses_run e = rw e
-
-  pub chooses_neither : (get_or r 0 0 ≡ RUN → ⊥) → (get_or r 0 0 ≡ YIELD → ⊥) → switched Other r ≡ switch_of r caller n
-  unfolding switch_of
-  chooses_neither not-run not-yield = rw (ne_eqb (get_or r 0 0) YIELD not-yield, ne_eqb (get_or r 0 0) RUN not-run)

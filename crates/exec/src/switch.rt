@@ -28,25 +28,27 @@ fn refused(r: &mut [u32; 8], code: u32) -> Switch
 }
 
 // Yield: success, and guest 0 is woken if a secondary calls.
+#[tactic(auto, unfolding(crate::specs::Switch::yield_switch))]
 fn yielded(r: &mut [u32; 8], caller: VmId) -> Switch
     ensures { switched result r.new ≡ yield_switch r.old caller }
 {
     r[0] = codes::SUCCESS;
     if parts::is_primary(caller) {
-        return Switch::Stay;
+        Switch::Stay
+    } else {
+        Switch::Wake
     }
-    Switch::Wake
 }
 
 // Run: the tests in their order, and then the guest in R1.
+#[tactic(auto, using(crate::proofs::Switching::run_by_secondary, crate::proofs::Switching::run_of_nobody, crate::proofs::Switching::run_of_primary, crate::proofs::Switching::run_of_secondary))]
 fn to_run(r: &mut [u32; 8], caller: VmId, n: u8) -> Switch
     ensures { switched result r.new ≡ run_switch r.old caller n }
 {
     if !parts::is_primary(caller) {
         return refused(r, codes::DENIED);
     }
-    let word = r[1];
-    let SomeVm::Vm(g) = numbers::vm_of(word, n) else {
+    let SomeVm::Vm(g) = numbers::vm_of(r[1], n) else {
         return refused(r, codes::INVALID);
     };
     if parts::is_primary(g) {
@@ -56,15 +58,13 @@ fn to_run(r: &mut [u32; 8], caller: VmId, n: u8) -> Switch
 }
 
 // Yield and Run; every other call is left alone.
+#[tactic(auto, unfolding(crate::specs::Switch::switch_of))]
 pub fn switched(r: &mut [u32; 8], caller: VmId, n: u8) -> Switch
     ensures { switched result r.new ≡ switch_of r.old caller n }
 {
-    let choice = r[0];
-    if choice == codes::YIELD {
-        return yielded(r, caller);
+    match r[0] {
+        codes::YIELD => yielded(r, caller),
+        codes::RUN => to_run(r, caller, n),
+        _ => Switch::Other,
     }
-    if choice == codes::RUN {
-        return to_run(r, caller, n);
-    }
-    Switch::Other
 }
