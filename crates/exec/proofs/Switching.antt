@@ -1,9 +1,8 @@
 -- The ways out of Run over the caller's registers, and what each leaves. Each law begins with the test that leads there.
-use Rattle.std.proofs.Common.{◌≡◌, ℕ, zero, suc, true, false, not, ltb, leb, List, get_or, refl, arith, ne_eqb, le-leb}
+use Rattle.std.proofs.Common.{◌≡◌, ℕ, zero, suc, true, false, not, ltb, leb, Some, None, List, get_or, refl, arith, ne_eqb, le-leb}
 use Rattle.isa.specs.Tests.{◌and◌}
 use Rattle.isa.proofs.Tests.{and_intro, and_false, true_not, false_not}
 use Rattle.parts.specs.Numbers.{vm_of}
-use Rattle.parts.specs.declared.numbers.SomeVm.TheVariants.{Nobody, Vm}
 use Rattle.parts.proofs.Named.{vm_found, no_vm}
 use Rattle.model.specs.declared.VmId.{VmId}
 use Rattle.model.specs.Constants.{DENIED, INVALID}
@@ -28,17 +27,17 @@ module _ (r : List ℕ) (caller : VmId) (n : ℕ) where
   unfolding run_switch
   run_of_other out by = rw (by, out)
 
-  pub run_of_nobody : vm_of (get_or r 1 0) n ≡ Nobody → is_primary caller ≡ true → refused_with r INVALID ≡ run_switch r caller n
+  pub run_of_nobody : vm_of (get_or r 1 0) n ≡ None → is_primary caller ≡ true → refused_with r INVALID ≡ run_switch r caller n
   run_of_nobody out = run_of_other (and_false _ _ (λ above. no_vm (get_or r 1 0) n out))
 
-  pub run_of_primary : {g : VmId} → is_primary g ≡ true → vm_of (get_or r 1 0) n ≡ Vm g → is_primary caller ≡ true
+  pub run_of_primary : {g : VmId} → is_primary g ≡ true → vm_of (get_or r 1 0) n ≡ Some g → is_primary caller ≡ true
       → refused_with r INVALID ≡ run_switch r caller n
   unfolding ◌and◌
   run_of_primary e named =
       let low : leb 1 (get_or r 1 0) ≡ false = rw (above_primary (get_or r 1 0), (vm_found (get_or r 1 0) n named).1) (true_not e) in
       run_of_other (rw low)
 
-  pub run_of_secondary : {g : VmId} → is_primary g ≡ false → vm_of (get_or r 1 0) n ≡ Vm g → is_primary caller ≡ true
+  pub run_of_secondary : {g : VmId} → is_primary g ≡ false → vm_of (get_or r 1 0) n ≡ Some g → is_primary caller ≡ true
       → switched (To g) r ≡ run_switch r caller n
   unfolding run_switch
   run_of_secondary e named by =

@@ -1,9 +1,7 @@
 -- One instruction leaves the memory as long as it was. And the laws of the inner loop: it goes on, it stops, its budget is spent.
-use Rattle.std.proofs.Common.{◌≡◌, ℕ, zero, suc, ◌-◌, ◌<◌, ◌≤◌, List, length, refl, ap, ◌∙◌, arith, length-set}
+use Rattle.std.proofs.Common.{◌≡◌, Option, Some, None, ℕ, zero, suc, ◌-◌, ◌<◌, ◌≤◌, List, length, refl, ap, ◌∙◌, arith, length-set}
 use Rattle.isa.specs.declared.Instruction.{Instruction}
 use Rattle.isa.specs.declared.Instruction.TheVariants.{Movi, Movt, Mov, Ldr, Str, Add, Sub, Addi, Cmp, Bne, Br, Hvc, Halt}
-use Rattle.isa.specs.declared.Decoded.{Decoded}
-use Rattle.isa.specs.declared.Decoded.TheVariants.{NotInstruction, Meaning}
 use Rattle.isa.specs.Decode.{decode_of}
 use Rattle.model.specs.declared.Registers.{Registers}
 use Rattle.model.specs.declared.Access.{Access}
@@ -50,11 +48,11 @@ perform_keeps Hvc rights file memory = refl
 perform_keeps Halt rights file memory = refl
 
 -- each word
-execute_keeps : (word : Decoded) (rights : Rights) (file : Registers) (memory : List ℕ)
+execute_keeps : (word : Option Instruction) (rights : Rights) (file : Registers) (memory : List ℕ)
     → Keeps (execute word rights file memory) file memory
 unfolding execute ends
-execute_keeps (Meaning i) rights file memory = perform_keeps i rights file memory
-execute_keeps NotInstruction rights file memory = refl
+execute_keeps (Some i) rights file memory = perform_keeps i rights file memory
+execute_keeps None rights file memory = refl
 
 pub turn_length : (rights : Rights) (file : Registers) (memory : List ℕ)
     → length (turn_of rights file memory).memory ≡ length memory

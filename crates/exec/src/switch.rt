@@ -3,10 +3,10 @@
 
 ghost use Rattle.std.specs.Prelude.{◌≡◌};
 ghost use Rattle.exec.specs.Switch.{switched, refused_with, yield_switch, run_switch, switch_of};
+ghost use Rattle.parts.specs.Refusal.{code_of};
 
 use model::VmId;
-use parts::numbers::SomeVm;
-use parts::{codes, numbers};
+use parts::{Refusal, codes, numbers};
 
 // What a call leaves to be done once its caller's registers are as they should be.
 #[derive(Clone, Copy)]
@@ -19,11 +19,11 @@ pub enum Switch {
 
 // An error: R0 and R2, and nothing else.
 #[tactic(auto, unfolding(crate::specs::Switch::refused_with))]
-fn refused(r: &mut [u32; 8], code: u32) -> Switch
-    ensures { switched result r.new ≡ refused_with r.old code }
+fn refused(r: &mut [u32; 8], refusal: Refusal) -> Switch
+    ensures { switched result r.new ≡ refused_with r.old (code_of refusal) }
 {
     r[0] = codes::ERROR;
-    r[2] = code;
+    r[2] = refusal.into();
     Switch::Stay
 }
 
@@ -41,18 +41,18 @@ fn yielded(r: &mut [u32; 8], caller: VmId) -> Switch
 }
 
 // Run: the tests in their order, and then the guest in R1.
-#[tactic(auto, using(crate::proofs::Switching::run_by_secondary, crate::proofs::Switching::run_of_nobody, crate::proofs::Switching::run_of_primary, crate::proofs::Switching::run_of_secondary))]
+#[tactic(auto, using(crate::proofs::Switching::run_by_secondary, crate::proofs::Switching::run_of_nobody, crate::proofs::Switching::run_of_primary, crate::proofs::Switching::run_of_secondary), unfolding(parts::specs::Refusal::code_of))]
 fn to_run(r: &mut [u32; 8], caller: VmId, n: u8) -> Switch
     ensures { switched result r.new ≡ run_switch r.old caller n }
 {
     if !parts::is_primary(caller) {
-        return refused(r, codes::DENIED);
+        return refused(r, Refusal::Denied);
     }
-    let SomeVm::Vm(g) = numbers::vm_of(r[1], n) else {
-        return refused(r, codes::INVALID);
+    let Some(g) = numbers::vm_of(r[1], n) else {
+        return refused(r, Refusal::Invalid);
     };
     if parts::is_primary(g) {
-        return refused(r, codes::INVALID);
+        return refused(r, Refusal::Invalid);
     }
     Switch::To(g)
 }
