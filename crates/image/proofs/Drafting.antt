@@ -1,8 +1,9 @@
 -- What every draft keeps, and the way through an image: what every draft keeps is known of a good verdict's machine.
 -- Assumes nothing.
-use Rattle.std.specs.Prelude.{Option, None}
+use Rattle.std.specs.Prelude.{Option, None, Some, is_some}
 use Rattle.model.specs.declared.Message.{Message}
 use Prim.Native.Nat.{ℕ, zero, suc, ◌≤◌, ◌<◌}
+use Rattle.std.proofs.lemmas.Option.{cond_some}
 use mathlib.Core.Path.{◌≡◌, refl, sym, ap, ◌∙◌}
 use mathlib.Core.Bool.{Bool, true, false, cond, true≢false, false≢true}
 use mathlib.Core.List.{List}
@@ -38,17 +39,13 @@ use Rattle.model.proofs.State.{file_same, file_other, box_same, box_other, row_s
 use Rattle.model.proofs.Sound.{counts_in_range_link}
 use Rattle.model.proofs.Links.{Link, ltb_link, eqb_link, same_record_link, fails_link, not_link, ◌also◌, ◌make◌}
 use Rattle.image.specs.declared.Record.{Record}
-use Rattle.image.specs.declared.Piece.{Piece}
-use Rattle.image.specs.declared.Piece.TheVariants.{Refused, Whole}
 use Rattle.image.specs.declared.Content.{Content}
-use Rattle.image.specs.declared.Content.TheVariants.{Nothing, Counts, Described, Owned, Words, Budget}
+use Rattle.image.specs.declared.Content.TheVariants.{Counts, Described, Owned, Words, Budget}
 use Rattle.image.specs.declared.Draft.{Draft}
-use Rattle.image.specs.declared.Verdict.TheVariants.{Good}
-use Rattle.image.specs.declared.Judged.{Judged}
+use Rattle.image.specs.declared.Image.{Image}
 use Rattle.image.specs.Pieces.{image_kinds, record_from, end_of, cut}
-use Rattle.image.specs.Contents.{content_of}
 use Rattle.image.specs.Drafts.{begun, unused, describable, ownable, complete, fits, is_counts, may_stand, with_pc, with_counts, with_guest, with_owner, with_budget, taken}
-use Rattle.image.specs.Judging.{Turn, stops, goes_on, broken, at_end, tried, turn, follow, judged_from, judged_of}
+use Rattle.image.specs.Judging.{Judged, Turn, stops, goes_on, broken, good, with_budget_read, at_end, heard, tried, turn, follow, judged_from, judged_of}
 
 -- A way through an image: Along holds where a record is looked at, and stays so behind each record that may stand; so the
 -- verdict has what Told says, if an end and a bad record have.
@@ -56,25 +53,31 @@ pub record Way (bytes : List ℕ) (Along : ℕ → Draft → Type 0) (Told : Jud
   pub ends : (at : ℕ) (d : Draft) → Along at d → Told (at_end at d)
   pub breaks : (at : ℕ) (d : Draft) → Along at d → Told (broken at)
   pub goes :
-      (at : ℕ) (d : Draft) (r : Record) → Along at d → cut image_kinds bytes at ≡ Whole r
-      → may_stand at d (content_of bytes r) ≡ true → Along (end_of r) (taken d (content_of bytes r))
+      (at : ℕ) (d : Draft) (r : Record) (content : Content) → Along at d → cut image_kinds bytes at ≡ Some r
+      → may_stand at d content ≡ true → Along (end_of r) (taken d content)
 
 module _ (bytes : List ℕ) (Along : ℕ → Draft → Type 0) (Told : Judged → Type 0) (way : Way bytes Along Told) where
   -- what has to hold after one look
   abbrev After : Turn → Type 0
   After t = elim t [ stops judged ↦ Told judged | goes_on at d ↦ Along at d ]
 
-  after_record : (at : ℕ) (d : Draft) (r : Record) → Along at d → cut image_kinds bytes at ≡ Whole r
-      → (stands : Bool) → may_stand at d (content_of bytes r) ≡ stands
-      → After (cond stands (goes_on (end_of r) (taken d (content_of bytes r))) (stops (broken at)))
-  after_record at d r along here true e = way.goes at d r along here e
-  after_record at d r along here false e = way.breaks at d along
+  after_content : (at : ℕ) (d : Draft) (r : Record) (content : Content) → Along at d → cut image_kinds bytes at ≡ Some r
+      → (stands : Bool) → may_stand at d content ≡ stands
+      → After (cond stands (goes_on (end_of r) (taken d content)) (stops (broken at)))
+  after_content at d r content along here true e = way.goes at d r content along here e
+  after_content at d r content along here false e = way.breaks at d along
 
-  after_piece : (at : ℕ) (d : Draft) (piece : Piece) → Along at d → cut image_kinds bytes at ≡ piece
+  after_record : (at : ℕ) (d : Draft) (r : Record) (said : Option Content) → Along at d → cut image_kinds bytes at ≡ Some r
+      → After (heard at d (end_of r) said)
+  unfolding heard
+  after_record at d r None along here = way.breaks at d along
+  after_record at d r (Some content) along here = after_content at d r content along here _ refl
+
+  after_piece : (at : ℕ) (d : Draft) (piece : Option Record) → Along at d → cut image_kinds bytes at ≡ piece
       → After (tried bytes at d piece)
   unfolding tried
-  after_piece at d Refused along here = way.breaks at d along
-  after_piece at d (Whole r) along here = after_record at d r along here _ refl
+  after_piece at d None along here = way.breaks at d along
+  after_piece at d (Some r) along here = after_record at d r _ along here
 
   after_turn : (at : ℕ) (d : Draft) (last : Bool) → Along at d
       → After (cond last (stops (at_end at d)) (tried bytes at d (cut image_kinds bytes at)))
@@ -166,7 +169,7 @@ pub record Drawn (d : Draft) : Type 0 where
   pub guests : Guests d.machine.n d.described d.machine.registers d.machine.mailboxes
   pub pages : Pages d.machine.n d.machine.m d.described d.machine.mailboxes d.machine.records
   pub still : Still d.machine.inboxes d.machine.transactions d.machine.current d.machine.mode
-  pub all_described : d.ended ≡ true → complete d.machine.n d.described ≡ true
+  pub all_described : is_some d.budget ≡ true → complete d.machine.n d.described ≡ true
 
 -- What a record may say, as facts.
 
@@ -396,10 +399,9 @@ pages_owned {n} {m} {described} {boxes} {records} c range p g free below =
 -- Every kind keeps what is known.
 
 -- a record that is not of kind 1
-pub drawn_more : (d : Draft) (content : Content) → Drawn d → d.ended ≡ false → is_counts content ≡ false → fits d content ≡ true
+pub drawn_more : (d : Draft) (content : Content) → Drawn d → is_some d.budget ≡ false → is_counts content ≡ false → fits d content ≡ true
     → Drawn (taken d content)
 unfolding taken fits is_counts with_guest with_owner with_budget
-drawn_more d Nothing c going other e = absurd (false≢true e)
 drawn_more d (Counts n m) c going other e = absurd (true≢false other)
 drawn_more d (Described g tx rx pc) c going other e =
     let ask = (describable_link d g tx rx).holds e in
@@ -435,7 +437,6 @@ drawn_more d (Budget steps) c going other e =
 -- the first record
 pub drawn_first : (content : Content) → is_counts content ≡ true → fits begun content ≡ true → Drawn (taken begun content)
 unfolding taken fits is_counts
-drawn_first Nothing first e = absurd (false≢true first)
 drawn_first (Counts n m) first e = counts_drawn n m ((counts_in_range_link n m).holds e)
 drawn_first (Described g tx rx pc) first e = absurd (false≢true first)
 drawn_first (Owned p g) first e = absurd (false≢true first)
@@ -449,7 +450,7 @@ pub data Drafted (at : ℕ) (d : Draft) : Type 0 where
 
 -- what a record that may stand is known by
 record Standing (at : ℕ) (d : Draft) (content : Content) : Type 0 where
-  going : d.ended ≡ false
+  going : is_some d.budget ≡ false
   first_only : eqb at 0 ≡ is_counts content
   fitting : fits d content ≡ true
 
@@ -477,19 +478,14 @@ pub record CutOut (bytes : List ℕ) (at : ℕ) (r : Record) : Type 0 where
   pub inside : end_of r ≤ length bytes
   pub further : end_of r ≡ 0 → ⊥
 
-cut_whole : (bytes : List ℕ) (at : ℕ) (r : Record) (whole : Bool)
-    → cond whole (Whole (record_from bytes at)) Refused ≡ Whole r → (whole ≡ true) × (record_from bytes at ≡ r)
-cut_whole bytes at r true e = (refl, cc)
-cut_whole bytes at r false e = absurd (false≢true cc)
-
 ends_further : (bytes : List ℕ) (at : ℕ) → end_of (record_from bytes at) ≡ 0 → ⊥
 unfolding end_of record_from
 ends_further bytes at e = omega arith
 
-pub cut_out : (bytes : List ℕ) (at : ℕ) (r : Record) → cut image_kinds bytes at ≡ Whole r → CutOut bytes at r
+pub cut_out : (bytes : List ℕ) (at : ℕ) (r : Record) → cut image_kinds bytes at ≡ Some r → CutOut bytes at r
 unfolding cut
 cut_out bytes at r e =
-    let known = cut_whole bytes at r _ e in
+    let known = cond_some _ (record_from bytes at) r e in
     rw (← known.1) (record { inside = leb-true _ _ (and_left _ _ known.0); further = ends_further bytes at })
 
 -- The machine of a good image: what is known of its draft, and that every guest is described.
@@ -501,7 +497,7 @@ pub record Built (m : Machine) : Type 0 where
   pub pages : Pages m.n m.m described m.mailboxes m.records
   pub still : Still m.inboxes m.transactions m.current m.mode
 
-built : (d : Draft) → Drawn d → d.ended ≡ true → Built d.machine
+built : (d : Draft) → Drawn d → is_some d.budget ≡ true → Built d.machine
 unfolding complete
 built d c ended =
     record {
@@ -515,24 +511,28 @@ built d c ended =
 
 -- a good verdict has such a machine
 abbrev ToldBuilt : Judged → Type 0
-ToldBuilt judged = (budget : ℕ) → judged.verdict ≡ Good budget → Built judged.machine
+ToldBuilt judged = (machine : Machine) (budget : ℕ) → judged ≡ good machine budget → Built machine
 
 not_built : (at : ℕ) → ToldBuilt (broken at)
-unfolding broken
-not_built at budget e = absurd (false≢true cc)
+not_built at machine budget e = cc
 
--- the blank draft has not ended
-drafted_built : (at : ℕ) (d : Draft) → Drafted at d → d.ended ≡ true → Built d.machine
+-- the blank draft has no budget
+drafted_built : (at : ℕ) (d : Draft) → Drafted at d → is_some d.budget ≡ true → Built d.machine
 unfolding begun
-drafted_built at d (before start same) ended = absurd (not_both ended (ap (λ (x : Draft). x.ended) same))
+drafted_built at d (before start same) ended = absurd (not_both ended (ap (λ (x : Draft). is_some x.budget) same))
 drafted_built at d (behind later c) ended = built d c ended
 
-end_built : (at : ℕ) (d : Draft) → Drafted at d → (ended : Bool) → d.ended ≡ ended
-    → ToldBuilt (cond ended (record { verdict = Good d.budget; machine = d.machine }) (broken at))
-end_built at d c true e budget good = drafted_built at d c e
-end_built at d c false e budget good = not_built at budget good
+end_built : (at : ℕ) (d : Draft) → Drafted at d → (budget : Option ℕ) → d.budget ≡ budget
+    → ToldBuilt (with_budget_read at d.machine budget)
+unfolding with_budget_read
+end_built at d c (Some budget) e machine told is =
+    let image : Image = record { machine = d.machine; budget = budget } in
+    let other : Image = record { machine = machine; budget = told } in
+    let same : image ≡ other = cc in
+    rw (← ap (λ (i : Image). i.machine) same) (drafted_built at d c (ap is_some e))
+end_built at d c None e machine told is = not_built at machine told is
 
-pub judged_built : (bytes : List ℕ) (budget : ℕ) → (judged_of bytes).verdict ≡ Good budget → Built (judged_of bytes).machine
+pub judged_built : (bytes : List ℕ) (machine : Machine) (budget : ℕ) → judged_of bytes ≡ good machine budget → Built machine
 unfolding judged_of at_end
 judged_built bytes =
     judged_along
@@ -542,6 +542,6 @@ judged_built bytes =
     (record {
       ends = λ at d c. end_built at d c _ refl;
       breaks = λ at d c. not_built at;
-      goes = λ at d r c here stands. drafted_next at (end_of r) d (content_of bytes r) c (cut_out bytes at r here).further stands;
+      goes = λ at d r content c here stands. drafted_next at (end_of r) d content c (cut_out bytes at r here).further stands;
     })
     (length bytes) 0 begun (before refl refl)

@@ -1,12 +1,17 @@
 -- What the proofs of reading share: the counts of a draft stay in range, record by record; which way a test of a record goes;
 -- and that the numbers of a record that fits are numbers of guests and pages.
-use Rattle.std.specs.Prelude.{None}
+use Rattle.std.specs.Prelude.{None, is_some}
 use Prim.Native.Nat.{ℕ, ◌+◌, ◌*◌, ◌-◌, ◌≤◌, ◌<◌}
-use mathlib.Core.Path.{◌≡◌}
+use mathlib.Core.Path.{◌≡◌, ap, ◌∙◌}
 use mathlib.Core.Bool.{Bool, true, false, not, beq}
 use mathlib.Core.List.{List}
 use native.Mathlib.Omega.{arith}
+use lib.ListN.{get_or}
 use lib.Dec.{eqb, leb}
+use Rattle.std.specs.List.{list_all, range_with_len}
+use Rattle.std.proofs.lemmas.List.FromFn.{length-range_with_len, get_or-range_with_len}
+use Rattle.parts.proofs.Loops.{every_listed}
+use Rattle.model.specs.Tests.{every}
 use borrow.Author.Tests.{ltb-true, leb-true, not-true, not-false, lt-ltb, le-ltb, le-leb, lt-leb}
 use Rattle.isa.specs.Tests.{◌and◌}
 use Rattle.model.specs.declared.PageRecord.{PageRecord}
@@ -17,16 +22,13 @@ use Rattle.model.specs.Row.{free_row, same_record}
 use Rattle.model.specs.Sound.{counts_in_range}
 use Rattle.model.specs.Blank.{blank}
 use Rattle.isa.proofs.Tests.{and_left, and_right}
-use Rattle.model.proofs.Tests.{beq_agree, same_test}
+use Rattle.model.proofs.Tests.{beq_agree, same_test, every_same}
 use Rattle.image.specs.declared.Content.{Content}
-use Rattle.image.specs.declared.Content.TheVariants.{Nothing, Counts, Described, Owned, Words, Budget}
+use Rattle.image.specs.declared.Content.TheVariants.{Counts, Described, Owned, Words, Budget}
 use Rattle.image.specs.declared.Draft.{Draft}
-use Rattle.image.specs.Drafts.{begun, unused, describable, ownable, inside, fits, is_counts, may_stand, with_counts, with_guest, with_owner, with_budget, taken}
+use Rattle.image.specs.Drafts.{Ranged, begun, unused, describable, ownable, inside, fits, is_counts, may_stand, with_counts, with_guest, with_owner, with_budget, taken}
 
 -- The counts of a draft are in range.
-
-abbrev pub Ranged : Draft → Type 0
-Ranged d = (d.machine.n ≤ GUESTS) × (d.machine.m ≤ PAGES)
 
 pub begun_ranged : Ranged begun
 unfolding begun blank
@@ -40,7 +42,6 @@ counts_ranged n m e =
 
 pub taken_ranged : (d : Draft) (content : Content) → Ranged d → fits d content ≡ true → Ranged (taken d content)
 unfolding fits taken with_counts with_guest with_owner with_budget
-taken_ranged d Nothing ranged e = ranged
 taken_ranged d (Counts n m) ranged e = counts_ranged n m e
 taken_ranged d (Described g tx rx pc) ranged e = ranged
 taken_ranged d (Owned p g) ranged e = ranged
@@ -80,6 +81,13 @@ module _ (d : Draft) (g tx rx : ℕ) where
   unfolding describable ◌and◌
   described_first h e p q = rw (lt-ltb g d.machine.n h, e, p, q)
 
+-- Kind 5: every guest is asked.
+
+pub every_ranged : (n : ℕ) (p : ℕ → Bool) → list_all p (range_with_len 0 n) ≡ every n p
+every_ranged n p =
+    every_listed 0 p _ (length-range_with_len 0 n)
+    ∙ every_same n (λ k. p (get_or (range_with_len 0 n) k 0)) p (λ k b. let same : get_or (range_with_len 0 n) k 0 ≡ k = omega (arith, get_or-range_with_len 0 n k 0 b) in ap p same)
+
 -- Kind 4: more words than memory has, or the address is asked.
 
 pub too_many : (m x k : ℕ) → PAGE * m < k → false ≡ inside m x k
@@ -98,16 +106,16 @@ not_too_many m x k h =
 -- A record in its place: nothing stands behind kind 5, kind 1 stands first and only there, and it says what it may.
 
 module _ (at : ℕ) (d : Draft) (content : Content) where
-  pub behind_the_end : d.ended ≡ true → false ≡ may_stand at d content
+  pub behind_the_end : is_some d.budget ≡ true → false ≡ may_stand at d content
   unfolding may_stand ◌and◌
   behind_the_end e = rw e
 
-  pub out_of_place : {r : Bool} → d.ended ≡ false → r ≡ is_counts content → not (beq (eqb at 0) r) ≡ true
+  pub out_of_place : {r : Bool} → is_some d.budget ≡ false → r ≡ is_counts content → not (beq (eqb at 0) r) ≡ true
       → false ≡ may_stand at d content
   unfolding may_stand ◌and◌
   out_of_place {r} e p q = rw (e, ← p, ← beq_agree (eqb at 0) r, not-true (beq (eqb at 0) r) q)
 
-  pub in_place : {r s : Bool} → d.ended ≡ false → r ≡ is_counts content → not (beq (eqb at 0) r) ≡ false
+  pub in_place : {r s : Bool} → is_some d.budget ≡ false → r ≡ is_counts content → not (beq (eqb at 0) r) ≡ false
       → s ≡ fits d content → s ≡ may_stand at d content
   unfolding may_stand ◌and◌
   in_place {r} e p q f = rw (f, e, ← p, ← beq_agree (eqb at 0) r, not-false (beq (eqb at 0) r) q)

@@ -1,9 +1,9 @@
 -- What a record says, by its kind and the form of its payload.
-use Rattle.std.specs.Prelude.{ℕ, ◌+◌, ◌-◌, ◌/◌, ◌%◌, Bool, cond, List, eqb, leb}
+use Rattle.std.specs.Prelude.{ℕ, ◌+◌, ◌-◌, ◌/◌, ◌%◌, Bool, cond, List, Option, Some, None, eqb, leb}
 use Rattle.isa.specs.Tests.{◌and◌}
 use Rattle.image.specs.declared.Record.{Record}
 use Rattle.image.specs.declared.Content.{Content}
-use Rattle.image.specs.declared.Content.TheVariants.{Nothing, Counts, Described, Owned, Words, Budget}
+use Rattle.image.specs.declared.Content.TheVariants.{Counts, Described, Owned, Words, Budget}
 use Rattle.image.specs.Bytes.{number_at, word_at}
 
 -- of this kind, with a payload of exactly this size
@@ -31,11 +31,12 @@ words bytes at size = Words (word_at bytes at) (size / 4 - 1)
 abbrev pub budget : List ℕ → ℕ → Content
 budget bytes at = Budget (word_at bytes at)
 
-unfoldable pub content_of : List ℕ → Record → Content
+-- a record whose payload has not its kind's form says nothing
+unfoldable pub content_of : List ℕ → Record → Option Content
 content_of bytes r =
-    cond (has_form r 1 4) (counts bytes r.payload)
-    (cond (has_form r 2 10) (described bytes r.payload)
-    (cond (has_form r 3 4) (owned bytes r.payload)
-    (cond (has_words r) (words bytes r.payload r.size)
-    (cond (has_form r 5 4) (budget bytes r.payload)
-    Nothing))))
+    cond (has_form r 1 4) (Some (counts bytes r.payload))
+    (cond (has_form r 2 10) (Some (described bytes r.payload))
+    (cond (has_form r 3 4) (Some (owned bytes r.payload))
+    (cond (has_words r) (Some (words bytes r.payload r.size))
+    (cond (has_form r 5 4) (Some (budget bytes r.payload))
+    None))))

@@ -1,5 +1,5 @@
 -- What a record may say after those before it, and what it adds to the machine so far.
-use Rattle.std.specs.Prelude.{ℕ, ◌+◌, ◌*◌, Bool, true, false, not, List, set, eqb, ltb, leb, None}
+use Rattle.std.specs.Prelude.{None, Some, ℕ, ◌+◌, ◌*◌, ◌≤◌, Bool, true, false, not, List, is_none, set, eqb, ltb, leb}
 use Rattle.isa.specs.Tests.{◌and◌}
 use Rattle.model.specs.declared.VmId.{VmId}
 use Rattle.model.specs.declared.PageId.{PageId}
@@ -10,19 +10,23 @@ use Rattle.model.specs.declared.PageRecord.{PageRecord}
 use Rattle.model.specs.declared.Mode.TheVariants.{Normal}
 use Rattle.model.specs.declared.Machine.{Machine}
 use Rattle.model.specs.Tests.{agree, every}
-use Rattle.model.specs.Constants.{PAGE}
+use Rattle.model.specs.Constants.{GUESTS, PAGES, PAGE}
 use Rattle.model.specs.State.{vm, page, registers_at, record_at, with_mode}
 use Rattle.model.specs.VmSet.{has, none, with}
 use Rattle.model.specs.Row.{mailbox_row, free_row, owned_row, same_record}
 use Rattle.model.specs.Sound.{counts_in_range}
 use Rattle.model.specs.Blank.{blank}
 use Rattle.image.specs.declared.Content.{Content}
-use Rattle.image.specs.declared.Content.TheVariants.{Nothing, Counts, Described, Owned, Words, Budget}
+use Rattle.image.specs.declared.Content.TheVariants.{Counts, Described, Owned, Words, Budget}
 use Rattle.image.specs.declared.Draft.{Draft}
 
 -- before the first record: all is blank, but that the mode is to be normal
 unfoldable pub begun : Draft
-begun = record { machine = with_mode blank Normal; described = none; ended = false; budget = 0 }
+begun = record { machine = with_mode blank Normal; described = none; budget = None }
+
+-- no more guests and pages than there is room for
+abbrev pub Ranged : Draft → Type 0
+Ranged d = (d.machine.n ≤ GUESTS) × (d.machine.m ≤ PAGES)
 
 -- What a record may say.
 
@@ -52,7 +56,6 @@ unfoldable pub complete : ℕ → VmSet → Bool
 complete n described = every n (λ g. has (vm g) described)
 
 unfoldable pub fits : Draft → Content → Bool
-fits d Nothing = false
 fits d (Counts n m) = counts_in_range n m
 fits d (Described g tx rx pc) = describable d g tx rx
 fits d (Owned p g) = ownable d p g
@@ -60,7 +63,6 @@ fits d (Words x k) = inside d.machine.m x k
 fits d (Budget steps) = complete d.machine.n d.described
 
 unfoldable pub is_counts : Content → Bool
-is_counts Nothing = false
 is_counts (Counts n m) = true
 is_counts (Described g tx rx pc) = false
 is_counts (Owned p g) = false
@@ -69,13 +71,12 @@ is_counts (Budget steps) = false
 
 -- kind 1 stands at offset 0, and nothing else does; nothing stands behind kind 5
 unfoldable pub may_stand : ℕ → Draft → Content → Bool
-may_stand at d content = not d.ended and agree (eqb at 0) (is_counts content) and fits d content
+may_stand at d content = is_none d.budget and agree (eqb at 0) (is_counts content) and fits d content
 
 -- What it adds.
 
 abbrev pub drafted : Draft → Machine → VmSet → Draft
-drafted d machine described =
-    record { machine = machine; described = described; ended = d.ended; budget = d.budget }
+drafted d machine described = record { machine = machine; described = described; budget = d.budget }
 
 -- a machine with counts, registers, mailboxes and records replaced
 abbrev pub made : Machine → ℕ → ℕ → List Registers → List Mailbox → List PageRecord → Machine
@@ -126,11 +127,10 @@ with_owner d p g =
     d.described
 
 unfoldable pub with_budget : Draft → ℕ → Draft
-with_budget d steps = record { machine = d.machine; described = d.described; ended = true; budget = steps }
+with_budget d steps = record { machine = d.machine; described = d.described; budget = Some steps }
 
 -- words are for the memory, and add nothing here
 unfoldable pub taken : Draft → Content → Draft
-taken d Nothing = d
 taken d (Counts n m) = with_counts d n m
 taken d (Described g tx rx pc) = with_guest d (vm g) (page tx) (page rx) pc
 taken d (Owned p g) = with_owner d (page p) (vm g)

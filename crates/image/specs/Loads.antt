@@ -10,8 +10,7 @@ use Rattle.model.specs.Answer.{answer_number}
 use Rattle.model.specs.Deeds.{freed}
 use Rattle.model.specs.Blank.{blank}
 use Rattle.model.specs.Entries.{check_of}
-use Rattle.image.specs.declared.Verdict.TheVariants.{Broken, Good}
-use Rattle.image.specs.Judging.{judged_of}
+use Rattle.image.specs.Judging.{broken, good, judged_of}
 use Rattle.image.specs.Laying.{memory_of}
 use Rattle.image.specs.Loading.{Put, load_of}
 
@@ -42,17 +41,17 @@ LoadedFresh =
 pub data Checked (bytes memory : List ℕ) (result : Loaded) : Type 0 where
   done :
       answer_number result.answer ≡ 0
-      → (judged_of bytes).verdict ≡ Good result.budget
-      → length memory ≡ PAGE * (judged_of bytes).machine.m
+      → judged_of bytes ≡ good result.machine result.budget
+      → length memory ≡ PAGE * result.machine.m
       → Checked bytes memory result
   wrong_memory :
-      (budget : ℕ)
+      (machine : Machine) (budget : ℕ)
       → answer_number result.answer ≡ 1
-      → (judged_of bytes).verdict ≡ Good budget
-      → (length memory ≡ PAGE * (judged_of bytes).machine.m → ⊥)
+      → judged_of bytes ≡ good machine budget
+      → (length memory ≡ PAGE * machine.m → ⊥)
       → Checked bytes memory result
   broken_image :
-      answer_number result.answer ≡ 4 → (judged_of bytes).verdict ≡ Broken result.offset → Checked bytes memory result
+      answer_number result.answer ≡ 4 → judged_of bytes ≡ broken result.offset → Checked bytes memory result
 
 -- A refused load: the blank machine, no budget, no offset unless it answers 4, and the memory as it was.
 pub record Untouched (memory : List ℕ) (p : Put) : Type 0 where
@@ -63,7 +62,7 @@ pub record Untouched (memory : List ℕ) (p : Put) : Type 0 where
 
 -- A load that is done: the machine that the image means, its words in the memory, and no offset.
 pub record Loads (bytes memory : List ℕ) (p : Put) : Type 0 where
-  pub its_machine : p.result.machine ≡ (judged_of bytes).machine
+  pub its_machine : judged_of bytes ≡ good p.result.machine p.result.budget
   pub its_words : p.memory ≡ memory_of bytes (length memory)
   pub no_offset : p.result.offset ≡ 0
 
@@ -74,4 +73,4 @@ pub record LoadAnswers (bytes memory : List ℕ) : Type 0 where
 
 -- The offset of a broken image lies in the image or at its end.
 abbrev pub BadOffsetInside : Type 0
-BadOffsetInside = (bytes : List ℕ) (offset : ℕ) → (judged_of bytes).verdict ≡ Broken offset → offset ≤ length bytes
+BadOffsetInside = (bytes : List ℕ) (offset : ℕ) → judged_of bytes ≡ broken offset → offset ≤ length bytes

@@ -1,10 +1,8 @@
 -- The cutter: what stands at an offset of an image. A record is the length of its payload, its kind, and the payload.
-use Rattle.std.specs.Prelude.{ℕ, ◌+◌, Bool, cond, List, [], ◌∷◌, length, get_or, eqb, leb}
+use Rattle.std.specs.Prelude.{ℕ, ◌+◌, Bool, cond, List, [], ◌∷◌, Option, Some, None, length, get_or, eqb, leb}
 use Rattle.isa.specs.Tests.{◌and◌}
 use Rattle.model.specs.Tests.{some}
 use Rattle.image.specs.declared.Record.{Record}
-use Rattle.image.specs.declared.Piece.{Piece}
-use Rattle.image.specs.declared.Piece.TheVariants.{Refused, Whole}
 use Rattle.image.specs.Bytes.{number_at}
 
 -- the kinds of an image
@@ -22,9 +20,9 @@ unfoldable pub end_of : Record → ℕ
 end_of r = r.payload + r.size
 
 -- it is taken if none of it lies behind the image's end, and its kind is allowed
-unfoldable pub cut : List ℕ → List ℕ → ℕ → Piece
+unfoldable pub cut : List ℕ → List ℕ → ℕ → Option Record
 cut kinds bytes at =
     cond
     (leb (end_of (record_from bytes at)) (length bytes) and among kinds (record_from bytes at).kind)
-    (Whole (record_from bytes at))
-    Refused
+    (Some (record_from bytes at))
+    None

@@ -5,18 +5,20 @@ ghost use Rattle.image.specs.Contents.{has_form, has_words, described, content_o
 
 use crate::{Content, Record, bytes};
 
-// Whether the record is of this kind and its payload of this size.
-fn has_form(whole: Record, kind: u16, size: usize) -> bool
-    ensures { result ≡ has_form whole kind size }
-{
-    (whole.kind == kind) & (whole.size == size)
-}
+impl Record {
+    // Whether the record is of this kind and its payload of this size.
+    fn has_form(self, kind: u16, size: usize) -> bool
+        ensures { result ≡ has_form self kind size }
+    {
+        (self.kind == kind) & (self.size == size)
+    }
 
-// Whether it is a kind 4 with an address and one or more whole words.
-fn has_words(whole: Record) -> bool
-    ensures { result ≡ has_words whole }
-{
-    (whole.kind == 4) & ((8 <= whole.size) & (whole.size % 4 == 0))
+    // Whether it is a kind 4 with an address and one or more whole words.
+    fn has_words(self) -> bool
+        ensures { result ≡ has_words self }
+    {
+        (self.kind == 4) & ((8 <= self.size) & (self.size % 4 == 0))
+    }
 }
 
 // Kind 2, with ten bytes from here on.
@@ -32,37 +34,37 @@ fn described_at(bytes: &[u8], at: usize) -> Content
     }
 }
 
-// What the record says.
-pub fn content_of(bytes: &[u8], whole: Record) -> Content
+// What the record says, if its payload has its kind's form.
+pub fn content_of(bytes: &[u8], whole: Record) -> Option<Content>
     requires { whole.payload + whole.size ≤ length bytes.now }
     ensures { result ≡ content_of bytes.now whole }
 {
     let at = whole.payload;
-    if has_form(whole, 1, 4) {
-        return Content::Counts {
+    if whole.has_form(1, 4) {
+        return Some(Content::Counts {
             n: bytes::number(bytes, at),
             m: bytes::number(bytes, at + 2),
-        };
+        });
     }
-    if has_form(whole, 2, 10) {
-        return described_at(bytes, at);
+    if whole.has_form(2, 10) {
+        return Some(described_at(bytes, at));
     }
-    if has_form(whole, 3, 4) {
-        return Content::Owned {
+    if whole.has_form(3, 4) {
+        return Some(Content::Owned {
             page: bytes::number(bytes, at),
             owner: bytes::number(bytes, at + 2),
-        };
+        });
     }
-    if has_words(whole) {
-        return Content::Words {
+    if whole.has_words() {
+        return Some(Content::Words {
             address: bytes::word(bytes, at),
             count: whole.size / 4 - 1,
-        };
+        });
     }
-    if has_form(whole, 5, 4) {
-        return Content::Budget {
+    if whole.has_form(5, 4) {
+        return Some(Content::Budget {
             steps: bytes::word(bytes, at),
-        };
+        });
     }
-    Content::Nothing
+    None
 }

@@ -1,53 +1,35 @@
 // The whole image, read without touching memory: what load and the bench both go by.
 
 ghost use Rattle.std.specs.Prelude.{◌≡◌};
-ghost use Rattle.image.specs.Judging.{broken, at_end, judged_of};
+ghost use Rattle.image.specs.Judging.{at_end, judged_of};
 
-use crate::{Draft, Judged, Piece, Verdict, contents, drafts, pieces};
-use model::Mode;
-
-// An image that is broken at this offset.
-fn broken(offset: usize) -> Judged
-    ensures { result ≡ broken offset }
-{
-    Judged {
-        verdict: Verdict::Broken { offset: offset },
-        machine: crate::empty_machine(Mode::Halted),
-    }
-}
+use crate::{Broken, Draft, Image, contents, pieces};
 
 // At the image's end: it is good if the budget was read.
-fn at_end(at: usize, draft: Draft) -> Judged
+fn at_end(at: usize, draft: Draft) -> Result<Image, Broken>
     ensures { result ≡ at_end at draft }
 {
-    if !draft.ended {
-        return broken(at);
-    }
-    let machine = draft.machine;
-    Judged {
-        verdict: Verdict::Good {
-            budget: draft.budget,
-        },
-        machine: machine,
-    }
+    let budget = draft.budget.ok_or(Broken { offset: at })?;
+    Ok(Image {
+        machine: draft.machine,
+        budget,
+    })
 }
 
 // Whether the image is good: its machine and its budget, or the offset of the first record that is bad.
-pub fn judge(bytes: &[u8]) -> Judged
+pub fn judge(bytes: &[u8]) -> Result<Image, Broken>
     ensures { result ≡ judged_of bytes.now }
 {
-    let mut draft = drafts::begun();
+    let mut draft = Draft::begun();
     let mut at: usize = 0;
     while at < bytes.len() {
-        let Piece::Whole(whole) = pieces::cut_image(bytes, at) else {
-            return broken(at);
-        };
-        let content = contents::content_of(bytes, whole);
-        if !drafts::may_stand(at, draft, content) {
-            return broken(at);
+        let bad = Broken { offset: at };
+        let whole = pieces::cut_image(bytes, at).ok_or(bad)?;
+        let content = contents::content_of(bytes, whole).ok_or(bad)?;
+        if !draft.may_stand(at, content) {
+            return Err(bad);
         }
-        let next = drafts::taken(draft, content);
-        draft = next;
+        draft = draft.taken(content);
         at = whole.payload + whole.size;
     }
     at_end(at, draft)

@@ -1,34 +1,21 @@
 // The words of an image that was judged good, laid into the memory. Words that lie outside would be passed over; a good image
 // has none.
 
-ghost use Rattle.std.specs.Prelude.{◌≡◌, ◌+◌, ◌*◌, ◌≤◌, length, replicate};
+ghost use Rattle.std.specs.Prelude.{◌≡◌, ◌+◌, ◌*◌, ◌≤◌, length};
 ghost use Rattle.image.specs.Laying.{words_laid, record_laid, memory_of};
 
-use crate::{Content, Piece, Record, bytes, contents, pieces};
-
-// Every word becomes 0.
-fn clear(mem: &mut [u32])
-    ensures { mem.new ≡ replicate (length mem.old) 0 }
-{
-    let mut i: usize = 0;
-    while i < mem.len() {
-        mem[i] = 0;
-        i += 1;
-    }
-}
+use crate::{Content, Record, bytes, contents, pieces};
 
 // So many words that stand in the bytes from an offset on, from an address on.
 fn lay_words(bytes: &[u8], from: usize, count: usize, address: u32, mem: &mut [u32])
     requires { from + 4 * count ≤ length bytes.now }
     ensures { mem.new ≡ words_laid bytes.now from count address mem.old }
 {
-    let mut i: usize = 0;
-    while i < count {
+    for i in 0..count {
         let place = address as usize + i;
         if place < mem.len() {
             mem[place] = bytes::word(bytes, from + 4 * i);
         }
-        i += 1;
     }
 }
 
@@ -37,38 +24,19 @@ fn lay_record(bytes: &[u8], whole: Record, mem: &mut [u32])
     requires { whole.payload + whole.size ≤ length bytes.now }
     ensures { mem.new ≡ record_laid bytes.now whole mem.old }
 {
-    let content = contents::content_of(bytes, whole);
-    match content {
-        Content::Nothing => {}
-        Content::Counts { n: _, m: _ } => {}
-        Content::Described {
-            guest: _,
-            tx: _,
-            rx: _,
-            pc: _,
-        } => {}
-        Content::Owned { page: _, owner: _ } => {}
-        Content::Words { address, count } => lay_words(
-            bytes,
-            whole.payload + 4,
-            count,
-            address,
-            mem,
-        ),
-        Content::Budget { steps: _ } => {}
-    }
+    let Some(Content::Words { address, count }) = contents::content_of(bytes, whole) else {
+        return;
+    };
+    lay_words(bytes, whole.payload + 4, count, address, mem);
 }
 
 // Those of every record in turn, on zeros.
 pub fn lay(bytes: &[u8], mem: &mut [u32])
     ensures { mem.new ≡ memory_of bytes.now (length mem.old) }
 {
-    clear(&mut *mem);
+    mem.fill(0);
     let mut at: usize = 0;
-    while at < bytes.len() {
-        let Piece::Whole(whole) = pieces::cut_image(bytes, at) else {
-            return;
-        };
+    while let Some(whole) = pieces::cut_image(bytes, at) {
         lay_record(bytes, whole, &mut *mem);
         at = whole.payload + whole.size;
     }

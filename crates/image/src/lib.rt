@@ -32,17 +32,9 @@ pub struct Record {
     pub size: usize,
 }
 
-// What stands at an offset of an image: a whole record of an allowed kind, or nothing of the sort.
-#[derive(Clone, Copy)]
-pub enum Piece {
-    Refused,
-    Whole(Record),
-}
-
-// What a record says, its numbers as wide as the image has them. One whose payload has not its kind's form says nothing.
+// What a record says, its numbers as wide as the image has them.
 #[derive(Clone, Copy)]
 pub enum Content {
-    Nothing,
     Counts {
         n: u16,
         m: u16,
@@ -66,27 +58,25 @@ pub enum Content {
     },
 }
 
-// What has been read so far: the machine, the guests that are described, and whether there was a budget, and which.
+// What has been read so far: the machine, the guests that are described, and the budget, once there was one.
 #[derive(Clone, Copy)]
 pub struct Draft {
     pub machine: Machine,
     pub described: VmSet,
-    pub ended: bool,
+    pub budget: Option<u32>,
+}
+
+// What a good image means: its machine and its budget. (Its words are laid into memory.)
+#[derive(Clone, Copy)]
+pub struct Image {
+    pub machine: Machine,
     pub budget: u32,
 }
 
-// Whether an image is good, and then its budget, or else where the bad record starts.
-#[derive(Clone, Copy)]
-pub enum Verdict {
-    Broken { offset: usize },
-    Good { budget: u32 },
-}
-
-// An image judged: the machine of a good one, the blank one of a broken one.
-#[derive(Clone, Copy)]
-pub struct Judged {
-    pub verdict: Verdict,
-    pub machine: Machine,
+// A broken image: where its first bad record starts.
+#[derive(Clone, Copy, PartialEq, Eq)]
+pub struct Broken {
+    pub offset: usize,
 }
 
 // A machine with no guest and no page, and every place blank, in this mode.
@@ -123,7 +113,7 @@ fn empty_machine(mode: Mode) -> Machine
         records: [spare; 64],
         transactions: [free; 16],
         current: VmId(0),
-        mode: mode,
+        mode,
     }
 }
 
@@ -133,10 +123,10 @@ fn refused(answer: Answer, offset: usize) -> Loaded
     ensures { result ≡ record { answer = answer; machine = blank; budget = 0; offset = offset } }
 {
     Loaded {
-        answer: answer,
+        answer,
         machine: empty_machine(Mode::Halted),
         budget: 0,
-        offset: offset,
+        offset,
     }
 }
 
@@ -145,22 +135,18 @@ fn refused(answer: Answer, offset: usize) -> Loaded
 pub fn load(bytes: &[u8], mem: &mut [u32]) -> Loaded
     ensures { left_by_load result mem.new ≡ load_of bytes.now mem.old }
 {
-    let judged = judging::judge(bytes);
-    let verdict = judged.verdict;
-    match verdict {
-        Verdict::Broken { offset } => refused(Answer::BrokenImage, offset),
-        Verdict::Good { budget } => {
-            let machine = judged.machine;
-            if mem.len() != 1024 * (machine.m as usize) {
-                return refused(Answer::WrongMemory, 0);
-            }
-            laying::lay(bytes, mem);
-            Loaded {
-                answer: Answer::Done,
-                machine: machine,
-                budget: budget,
-                offset: 0,
-            }
-        }
+    let Image { machine, budget } = match judging::judge(bytes) {
+        Ok(image) => image,
+        Err(Broken { offset }) => return refused(Answer::BrokenImage, offset),
+    };
+    if mem.len() != 1024 * (machine.m as usize) {
+        return refused(Answer::WrongMemory, 0);
+    }
+    laying::lay(bytes, mem);
+    Loaded {
+        answer: Answer::Done,
+        machine,
+        budget,
+        offset: 0,
     }
 }

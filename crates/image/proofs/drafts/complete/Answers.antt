@@ -1,19 +1,21 @@
--- A guest is not described, or all of them are.
-use Rattle.std.proofs.Common.{arith}
-use Rattle.parts.proofs.Loops.{asked_more, asked_stops, asked_whole, every_none}
+-- Every guest is asked.
+use Rattle.std.proofs.Common.{arith, rules, refl, ◌∙◌}
+use borrow.Author.Tests.{tests}
+use Rattle.std.specs.Prelude.{ℕ, Bool}
+use Rattle.std.proofs.lemmas.Iterator.{YieldsList-from_range}
+use Rattle.std.proofs.lemmas.Iterator.Search.{all_from_yields_List}
+use Rattle.model.specs.State.{vm}
+use Rattle.model.specs.declared.VmSet.{VmSet}
+use Rattle.model.specs.VmSet.{has}
 use Rattle.image.specs.Drafts.{complete}
+use Rattle.image.proofs.Reading.{every_ranged}
 use Rattle.image.proofs.drafts.complete.Goals as goal
 
-pub loop-g-init : goal.loop-g-init
-loop-g-init c = (omega arith, every_none _)
-
-pub returns-then-not-has : goal.returns-then-not-has
-unfolding complete
-returns-then-not-has c = asked_stops _ c.loop-g-test.true c.has.ensures c.if-not-has.true
-
-pub loop-g-preserved : goal.loop-g-preserved
-loop-g-preserved c = (omega arith, asked_more _ _ c.loop-g.invariant.1 c.has.ensures c.if-not-has.false)
+abbrev is_described : VmSet → ℕ → Bool
+is_described described g = has (vm g) described
 
 pub returns : goal.returns
 unfolding complete
-returns c = asked_whole _ c.loop-g.invariant c.loop-g-test.false
+returns c =
+    all_from_yields_List (is_described c.args.described) _ _ _ c.all.ensures.ran (YieldsList-from_range 0 c.args.n c.args.n refl (omega arith)) (λ x b q k. search (rules, tests))
+    ∙ every_ranged c.args.n (is_described c.args.described)

@@ -1,32 +1,23 @@
--- By what the record says: words are laid, and nothing else changes the memory.
-use Rattle.std.proofs.Common.{refl}
-use Rattle.image.proofs.Turns.{laid_inside, record_laid_lem}
-use Rattle.image.specs.Laying.{content_laid}
+-- By what the record says: its words are laid, and nothing else changes the memory.
+use Rattle.std.proofs.Common.{rules, ◌≡◌, ℕ}
+use Rattle.image.specs.declared.Content.TheVariants.{Words}
+use Rattle.image.proofs.Turns.{laid_inside, laid_other, laid_silent, laid_words}
 use Rattle.image.proofs.laying.lay_record.Goals as goal
 
+-- it says something else
+pub returns-in_default : goal.returns-in_default
+returns-in_default c =
+    let other : (x k : ℕ) → c.in_default.field-0 ≡ Words x k → ⊥ = λ x k e. search rules in
+    laid_other _ _ _ c.content_of.ensures c.in_default.is other
+
+-- it says nothing
+pub returns-in_default-2 : goal.returns-in_default-2
+returns-in_default-2 c = laid_silent _ _ _ c.content_of.ensures c.in_default.is
+
 pub lay_words-requires : goal.lay_words-requires
-lay_words-requires c = laid_inside _ _ c.content_of-content.ensures c.in-Words.is c.requires
+lay_words-requires c =
+    laid_inside _ _ c.content_of.ensures c.in-Some-Words.is c.in-Some-Words.field-0-is c.requires
 
-pub returns-in-Nothing : goal.returns-in-Nothing
-unfolding content_laid
-returns-in-Nothing c = record_laid_lem _ _ _ c.content_of-content.ensures c.in-Nothing.is refl
-
-pub returns-in-Counts : goal.returns-in-Counts
-unfolding content_laid
-returns-in-Counts c = record_laid_lem _ _ _ c.content_of-content.ensures c.in-Counts.is refl
-
-pub returns-in-Described : goal.returns-in-Described
-unfolding content_laid
-returns-in-Described c = record_laid_lem _ _ _ c.content_of-content.ensures c.in-Described.is refl
-
-pub returns-in-Owned : goal.returns-in-Owned
-unfolding content_laid
-returns-in-Owned c = record_laid_lem _ _ _ c.content_of-content.ensures c.in-Owned.is refl
-
-pub returns-in-Words : goal.returns-in-Words
-unfolding content_laid
-returns-in-Words c = record_laid_lem _ _ _ c.content_of-content.ensures c.in-Words.is c.lay_words.ensures
-
-pub returns-in-Budget : goal.returns-in-Budget
-unfolding content_laid
-returns-in-Budget c = record_laid_lem _ _ _ c.content_of-content.ensures c.in-Budget.is refl
+pub returns : goal.returns
+returns c =
+    laid_words _ _ _ c.content_of.ensures c.in-Some-Words.is c.in-Some-Words.field-0-is c.lay_words.ensures

@@ -9,9 +9,9 @@ returns-then-left-lt4 c = sym (cut_none _ _ _ (omega arith))
 pub returns-then-left-size : goal.returns-then-left-size
 returns-then-left-size c = sym (cut_long _ _ _ (omega (arith, c.number-size.ensures)))
 
-pub returns-then-not-is_among : goal.returns-then-not-is_among
-returns-then-not-is_among c =
-    sym (cut_unknown _ _ _ c.number-kind.ensures c.is_among.ensures c.if-not-is_among.true)
+pub returns-then-not-contains : goal.returns-then-not-contains
+returns-then-not-contains c =
+    sym (cut_unknown _ _ _ c.number-kind.ensures c.contains.ensures.value c.if-not-contains.true)
 
 pub returns : goal.returns
 returns c =
@@ -23,5 +23,5 @@ returns c =
     c.number-kind.ensures
     c.number-size.ensures
     (omega arith)
-    c.is_among.ensures
-    c.if-not-is_among.false)
+    c.contains.ensures.value
+    c.if-not-contains.false)
