@@ -47,7 +47,7 @@ impl Content {
 impl Draft {
     // Before the first record.
     #[tactic(auto, unfolding(crate::specs::Drafts::begun))]
-    pub(crate) fn begun() -> Draft
+    pub fn begun() -> Draft
         ensures { result ≡ begun }
     {
         Draft {
@@ -112,7 +112,7 @@ impl Draft {
     }
 
     // Also in its place: kind 1 first and only there, and nothing behind kind 5.
-    pub(crate) fn may_stand(&self, at: usize, content: Content) -> bool
+    pub fn may_stand(&self, at: usize, content: Content) -> bool
         requires { Ranged self.now }
         ensures { result ≡ may_stand at self.now content }
     {
@@ -186,7 +186,7 @@ impl Draft {
 
     // By its kind; words are for the memory, and add nothing here.
     #[tactic(auto, unfolding(crate::specs::Drafts::taken))]
-    pub(crate) fn taken(self, content: Content) -> Draft
+    pub fn taken(self, content: Content) -> Draft
         requires { Ranged self × (fits self content ≡ true) }
         ensures { result ≡ taken self content }
     {

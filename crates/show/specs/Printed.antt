@@ -11,15 +11,16 @@ use Rattle.lines.specs.Text.{line_text, end_text, refused_text, broken_text}
 use Rattle.lines.specs.Examples.{example_line}
 use Rattle.show.specs.declared.course.Course.{Course}
 use Rattle.show.specs.declared.course.Course.TheVariants.{TooLarge, Faulty, Fits}
-use Rattle.show.specs.Course.{course_of, budget_of, image_run}
+use Rattle.show.specs.Course.{course_of, image_in, image_run}
 use Rattle.show.specs.Told.{lines_text, rest_of}
 
 -- the state that a good image means, and its budget
 abbrev pub image_state : List ℕ → State
-image_state bytes = state (judged_of bytes).machine (memory_of bytes (PAGE * (judged_of bytes).machine.m))
+image_state bytes =
+    state (image_in (judged_of bytes)).machine (memory_of bytes (PAGE * (image_in (judged_of bytes)).machine.m))
 
 abbrev pub image_budget : List ℕ → ℕ
-image_budget bytes = budget_of (judged_of bytes).verdict
+image_budget bytes = (image_in (judged_of bytes)).budget
 
 -- a refusal, or the text of the whole run
 unfoldable pub printed_by : Course → List ℕ → List ℕ

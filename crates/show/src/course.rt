@@ -3,7 +3,7 @@
 ghost use Rattle.std.specs.Prelude.{◌≡◌};
 ghost use Rattle.show.specs.Course.{course_of};
 
-use image::Verdict;
+use image::{Broken, Image};
 
 // It is too large, or its machine's memory is; or it is broken, at this offset; or its machine has so many pages, and runs.
 #[derive(Clone, Copy)]
@@ -21,16 +21,14 @@ pub fn chosen(bytes: &[u8]) -> Course
     if 65536 < bytes.len() {
         return Course::TooLarge;
     }
-    let judged = image::judge(bytes);
-    let verdict = judged.verdict;
-    match verdict {
-        Verdict::Broken { offset } => Course::Faulty { offset: offset },
-        Verdict::Good { budget: _ } => {
-            let m = judged.machine.m;
+    match image::judge(bytes) {
+        Err(Broken { offset }) => Course::Faulty { offset },
+        Ok(Image { machine, .. }) => {
+            let m = machine.m;
             if 16 < m {
                 return Course::TooLarge;
             }
-            Course::Fits { m: m }
+            Course::Fits { m }
         }
     }
 }
