@@ -57,7 +57,7 @@ module _ (transactions : List Transaction) (free : transactions ≡ replicate HA
 module _ (inboxes : List (Option Message)) (empty : inboxes ≡ replicate GUESTS None) where
   empty_at : (g : ℕ) → g < GUESTS → inbox_at inboxes (vm g) ≡ None
   unfolding inbox_at
-  empty_at g b = rw empty (ap (λ (slot : Option Message). slot.inbox) (get_or-replicate GUESTS g None _ b))
+  empty_at g b = rw empty (get_or-replicate GUESTS g None _ b)
 
   no_message : (g length : ℕ) (sender : VmId) → g < GUESTS → inbox_at inboxes (vm g) ≡ Some (message length sender) → ⊥
   no_message g length sender b e =

@@ -6,7 +6,7 @@ ghost use Rattle.model.specs.Sound.{counts_in_range};
 ghost use Rattle.image.specs.Drafts.{Ranged, begun, unused, describable, ownable, inside, complete, fits, is_counts, may_stand, with_counts, with_guest, with_owner, with_budget, taken};
 
 use crate::{Content, Draft};
-use model::{Machine, Mailbox, Mode, Owner, PageId, VmId, VmSet};
+use model::{Machine, Mailbox, Mode, PageId, VmId, VmSet};
 
 // Kind 1: 2 to 8 guests, and pages for two mailboxes each up to 64.
 fn counts_fit(n: u16, m: u16) -> bool
@@ -68,10 +68,7 @@ impl Draft {
         if p >= u16::from(self.machine.m) {
             return false;
         }
-        parts::same_record(
-            self.machine.records[p as usize],
-            parts::free_row(Owner::Nobody),
-        )
+        parts::same_record(self.machine.records[p as usize], parts::free_row(None))
     }
 
     // Kind 2: a guest that is not described yet, and two pages for its mailboxes.

@@ -20,8 +20,7 @@ ghost use Rattle.image.specs.Loading.{left_by_load, load_of};
 
 pub use judging::judge;
 use model::{
-    Answer, Inbox, InboxSlot, Life, Loaded, Machine, Mailbox, Mode, Owner, PageId, PageRecord,
-    Registers, Transaction, VmId, VmSet,
+    Answer, Loaded, Machine, Mailbox, Mode, PageId, PageRecord, Registers, Transaction, VmId, VmSet,
 };
 
 // A whole record: its kind, and where its payload begins and how many bytes that has.
@@ -94,12 +93,12 @@ fn empty_machine(mode: Mode) -> Machine
         equal: false,
     };
     let spare = PageRecord {
-        owner: Owner::Nobody,
+        owner: None,
         access: VmSet(0),
         exclusive: false,
     };
     let free = Transaction {
-        life: Life::Free,
+        deal: None,
         pages: [PageId(0); 8],
     };
     Machine {
@@ -107,9 +106,7 @@ fn empty_machine(mode: Mode) -> Machine
         m: 0,
         registers: [file; 8],
         mailboxes: [nowhere; 8],
-        inboxes: [InboxSlot {
-            inbox: Inbox::Empty,
-        }; 8],
+        inboxes: [None; 8],
         records: [spare; 64],
         transactions: [free; 16],
         current: VmId(0),
