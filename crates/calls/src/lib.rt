@@ -1,50 +1,72 @@
-// The call that the current guest makes: R0 chooses among the calls of `control`, `handles` and `offers`.
+// The call that the current guest makes: R0 names it, and it is one of `control`, `handles` or `offers`.
 
 #![tactic(auto)]
 
-ghost use Rattle.std.specs.Prelude.{◌≡◌, true, List, ℕ, ◌*◌, length};
+ghost use Rattle.std.specs.Prelude.{◌≡◌, true, ◌*◌, length};
 ghost use Rattle.model.specs.Constants.{PAGE};
 ghost use Rattle.model.specs.State.{state};
 ghost use Rattle.model.specs.Sound.{sound};
 ghost use Rattle.model.specs.Call.{call_effect};
-ghost use Rattle.calls.specs.Choice.{sending_of, without_memory};
+ghost use Rattle.calls.specs.Choice.{named, effect_of};
 
 use model::{Kind, Machine};
-use parts::{codes, reply};
+use parts::{Refusal, codes, reply};
 
-// The kind of a sending, if the call is one.
-#[derive(Clone, Copy)]
-enum SomeKind {
-    None,
-    Kind(Kind),
+// The calls.
+#[derive(Clone, Copy, PartialEq, Eq)]
+pub enum Call {
+    Run,
+    Yield,
+    Poll,
+    Wait,
+    Send,
+    Transfer(Kind),
+    Retrieve,
+    Relinquish,
+    Reclaim,
 }
 
-// Which of the three sendings a call number is, if it is one.
-fn sending_of(choice: u32) -> SomeKind
-    ensures { result ≡ sending_of choice }
-{
-    match choice {
-        codes::DONATE => SomeKind::Kind(Kind::Donate),
-        codes::LEND => SomeKind::Kind(Kind::Lend),
-        codes::SHARE => SomeKind::Kind(Kind::Share),
-        _ => SomeKind::None,
+// The call of a number; any other number is refused as not supported.
+impl TryFrom<u32> for Call {
+    type Error = Refusal;
+
+    ghost try_from_gives = { λ number result. result ≡ named number };
+
+    #[tactic(auto, using(crate::proofs::Chosen::no_call), unfolding(crate::specs::Choice::named, model::specs::Call::chosen))]
+    fn try_from(number: u32) -> Result<Self, Refusal> {
+        match number {
+            codes::RUN => Ok(Call::Run),
+            codes::YIELD => Ok(Call::Yield),
+            codes::POLL => Ok(Call::Poll),
+            codes::WAIT => Ok(Call::Wait),
+            codes::SEND => Ok(Call::Send),
+            codes::DONATE => Ok(Call::Transfer(Kind::Donate)),
+            codes::LEND => Ok(Call::Transfer(Kind::Lend)),
+            codes::SHARE => Ok(Call::Transfer(Kind::Share)),
+            codes::RETRIEVE => Ok(Call::Retrieve),
+            codes::RELINQUISH => Ok(Call::Relinquish),
+            codes::RECLAIM => Ok(Call::Reclaim),
+            _ => Err(Refusal::NotSupported),
+        }
     }
 }
 
-// The calls that neither read nor write memory, and all numbers that are no call's.
-fn without_memory(choice: u32, machine: Machine) -> Machine
-    requires { sound machine ≡ true }
-    ensures { (memory : List ℕ) → state result memory ≡ without_memory choice (state machine memory) }
+// What a call by its name does.
+#[tactic(auto, unfolding(crate::specs::Choice::effect_of))]
+fn made(called: Call, machine: Machine, mem: &mut [u32]) -> Machine
+    requires { (sound machine ≡ true) × (length mem.old ≡ PAGE * machine.m) }
+    ensures { state result mem.new ≡ effect_of called (state machine mem.old) }
 {
-    match choice {
-        codes::RUN => control::run::run(machine),
-        codes::YIELD => control::yielding::yield_call(machine),
-        codes::POLL => control::poll::poll(machine),
-        codes::WAIT => control::wait::wait(machine),
-        codes::RETRIEVE => handles::retrieve::retrieve(machine),
-        codes::RELINQUISH => handles::relinquish::relinquish(machine),
-        codes::RECLAIM => handles::reclaim::reclaim(machine),
-        _ => reply::with_error(machine, codes::NOT_SUPPORTED),
+    match called {
+        Call::Run => control::run::run(machine),
+        Call::Yield => control::yielding::yield_call(machine),
+        Call::Poll => control::poll::poll(machine),
+        Call::Wait => control::wait::wait(machine),
+        Call::Send => control::send::send(machine, mem),
+        Call::Transfer(kind) => offers::sending::sending(kind, machine, &mem[..]),
+        Call::Retrieve => handles::retrieve::retrieve(machine),
+        Call::Relinquish => handles::relinquish::relinquish(machine),
+        Call::Reclaim => handles::reclaim::reclaim(machine),
     }
 }
 
@@ -53,13 +75,8 @@ pub fn call(machine: Machine, mem: &mut [u32]) -> Machine
     requires { (sound machine ≡ true) × (length mem.old ≡ PAGE * machine.m) }
     ensures { state result mem.new ≡ call_effect (state machine mem.old) }
 {
-    let choice = reply::argument(machine, 0);
-    if choice == codes::SEND {
-        return control::send::send(machine, mem);
-    }
-    let kind = sending_of(choice);
-    match kind {
-        SomeKind::Kind(k) => offers::sending::sending(k, machine, &mem[..]),
-        SomeKind::None => without_memory(choice, machine),
+    match Call::try_from(reply::argument(machine, 0)) {
+        Ok(called) => made(called, machine, mem),
+        Err(refusal) => reply::with_error(machine, refusal),
     }
 }

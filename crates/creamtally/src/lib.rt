@@ -13,8 +13,9 @@ ghost use Rattle.image.specs.Loading.{left_by_load, load_of};
 ghost use Rattle.creamtally.specs.Left.{left, left_by_run, left_by_leg, walk_of};
 ghost use Rattle.creamtally.specs.Part.{BeginsAt};
 
-use model::{Answer, Loaded, Machine, NextCall, Ran, RanToCall, Stepped, VmId};
+use model::{Answer, Loaded, Machine, Ran, RanToCall, Stepped, VmId};
 use parts::inboxes;
+use runs::Advanced;
 
 // Whether the lent memory fits the machine and the machine is sound: answers 0, 1 and 2.
 pub fn check(machine: Machine, mem: &[u32]) -> Answer
@@ -34,13 +35,7 @@ pub fn check(machine: Machine, mem: &[u32]) -> Answer
 pub fn answer_number(answer: Answer) -> u32
     ensures { result ≡ answer_number answer }
 {
-    match answer {
-        Answer::Done => 0,
-        Answer::WrongMemory => 1,
-        Answer::Unsound => 2,
-        Answer::Stopped => 3,
-        Answer::BrokenImage => 4,
-    }
+    answer.into()
 }
 
 // The current guest's next instruction: a run of one step, but that a machine that has stopped is answered by 3.
@@ -49,11 +44,9 @@ pub fn step(machine: Machine, mem: &mut [u32]) -> Stepped
 {
     let mode = machine.mode;
     let walked = walk(machine, mem, 1, false);
-    let checked = walked.answer;
-    let after = walked.machine;
     Stepped {
-        answer: modes::then_mode(checked, mode),
-        machine: after,
+        answer: modes::then_mode(walked.answer, mode),
+        machine: walked.machine,
     }
 }
 
@@ -62,11 +55,9 @@ pub fn run(machine: Machine, mem: &mut [u32], budget: u32) -> Ran
     ensures { left_by_run result mem.new ≡ run_of machine mem.old budget }
 {
     let walked = walk(machine, mem, budget, false);
-    let answer = walked.answer;
-    let after = walked.machine;
     Ran {
-        answer: answer,
-        machine: after,
+        answer: walked.answer,
+        machine: walked.machine,
         count: walked.count,
     }
 }
@@ -83,24 +74,25 @@ pub fn run_to_call(machine: Machine, mem: &mut [u32], budget: u32) -> RanToCall
 fn walk(machine: Machine, mem: &mut [u32], budget: u32, to_call: bool) -> RanToCall
     ensures { left_by_leg result mem.new ≡ walk_of to_call machine mem.old budget }
 {
-    let mode = machine.mode;
     let answer = check(machine, &mem[..]);
-    if answer_number(modes::then_mode(answer, mode)) != 0 {
+    if modes::then_mode(answer, machine.mode) != Answer::Done {
         return RanToCall {
-            answer: answer,
-            machine: machine,
+            answer,
+            machine,
             count: 0,
-            call: NextCall::None,
+            call: None,
         };
     }
-    let advanced = runs::advance(machine, mem, budget, to_call);
-    let after = advanced.machine;
-    let call = advanced.call;
+    let Advanced {
+        machine,
+        left,
+        call,
+    } = runs::advance(machine, mem, budget, to_call);
     RanToCall {
-        answer: answer,
-        machine: after,
-        count: budget - advanced.left,
-        call: call,
+        answer,
+        machine,
+        count: budget - left,
+        call,
     }
 }
 
@@ -108,17 +100,13 @@ fn walk(machine: Machine, mem: &mut [u32], budget: u32, to_call: bool) -> RanToC
 pub fn call(machine: Machine, mem: &mut [u32]) -> Stepped
     ensures { left result mem.new ≡ call_of machine mem.old }
 {
-    let mode = machine.mode;
-    let answer = modes::then_mode(check(machine, &mem[..]), mode);
-    let refused = answer_number(answer) != 0;
+    let answer = modes::then_mode(check(machine, &mem[..]), machine.mode);
+    let refused = answer != Answer::Done;
     if refused {
-        return Stepped {
-            answer: answer,
-            machine: machine,
-        };
+        return Stepped { answer, machine };
     }
     Stepped {
-        answer: answer,
+        answer,
         machine: calls::call(machine, mem),
     }
 }
@@ -127,17 +115,15 @@ pub fn call(machine: Machine, mem: &mut [u32]) -> Stepped
 pub fn message<'a>(machine: Machine, mem: &'a [u32], g: VmId) -> &'a [u32]
     ensures { (result.now ≡ message_of machine mem.now g) × BeginsAt result mem.entry (message_place machine mem.now g) }
 {
-    let refused = answer_number(check(machine, mem)) != 0;
+    let refused = check(machine, mem) != Answer::Done;
     if refused {
         return &mem[..0];
     }
     if g.0 >= machine.n {
         return &mem[..0];
     }
-    let slots = machine.inboxes;
-    let words = inboxes::length_of(inboxes::inbox_at(slots, g)) as usize;
-    let boxes = machine.mailboxes;
-    let base = 1024 * (inboxes::mailbox_at(boxes, g).rx.0 as usize);
+    let words = inboxes::length_of(inboxes::inbox_at(machine.inboxes, g)) as usize;
+    let base = 1024 * (inboxes::mailbox_at(machine.mailboxes, g).rx.0 as usize);
     let end = base + words;
     &mem[base..end]
 }

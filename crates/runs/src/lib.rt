@@ -2,18 +2,17 @@
 
 #![tactic(auto)]
 
-ghost use Rattle.std.specs.Prelude.{◌≡◌, ℕ, ◌*◌, true, List, length};
+ghost use Rattle.std.specs.Prelude.{◌≡◌, ℕ, ◌*◌, true, None, List, length};
 ghost use Rattle.model.specs.Constants.{PAGE};
 ghost use Rattle.model.specs.State.{state, is_normal};
 ghost use Rattle.model.specs.Sound.{sound};
-ghost use Rattle.model.specs.declared.NextCall.TheVariants.{None};
 ghost use Rattle.runs.specs.Advance.{rest, rest_of, advance_of, by_call, ended_by, told_of};
 
 use exec::instruction::Stop;
 use exec::rights::Maps;
 use exec::switch::Switch;
 use exec::{burst, rights, switch};
-use model::{Machine, Mode, NextCall, Registers, VmId};
+use model::{MadeCall, Machine, Mode, Registers, VmId};
 use parts::codes;
 
 // What a run leaves: also what is left of its budget, and the call that ended it, if one did.
@@ -21,7 +20,7 @@ use parts::codes;
 pub struct Advanced {
     pub machine: Machine,
     pub left: u32,
-    pub call: NextCall,
+    pub call: Option<MadeCall>,
 }
 
 // Whether a call stopped the guest.
@@ -51,7 +50,7 @@ fn over(machine: Machine, left: u32) -> Advanced
     Advanced {
         machine,
         left,
-        call: NextCall::None,
+        call: None,
     }
 }
 
@@ -110,7 +109,7 @@ pub fn advance(machine: Machine, mem: &mut [u32], budget: u32, to_call: bool) ->
             return Advanced {
                 machine: m,
                 left,
-                call: NextCall::Made { caller, r0 },
+                call: Some(MadeCall { caller, r0 }),
             };
         }
     }
