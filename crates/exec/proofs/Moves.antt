@@ -46,23 +46,33 @@ halts f none = go (eqb f.code 13) refl
     go true e = rw (eqb-true f.code 13 e)
     go false e = ap (λ (o : Opcode). o.means) (no_opcode f (none_below 13 _ (none, eqb-false _ _ e)))
 
+-- A value that is made of registers that were read.
+
+pub one_read : {A : Type 0} (op : ℕ → A) {a x : ℕ} {v : A} → v ≡ op a → a ≡ x → v ≡ op x
+one_read op e one = rw (e, one)
+
+pub two_read : {A : Type 0} (op : ℕ → ℕ → A) {a b x y : ℕ} {v : A} → v ≡ op a b → a ≡ x → b ≡ y → v ≡ op x y
+two_read op e one two = rw (e, one, two)
+
 -- What moves on: with Rd set, or with another memory.
 module _ (rights : Rights) (file : Registers) (memory : List ℕ) {stop : Stop} {next : Registers} where
   pub gets_done :
-      (i : Instruction) (d v : ℕ) →
-      perform i rights file memory ≡ gets file memory d v →
+      (i : Instruction) (d : ℕ) {v w : ℕ} →
+      perform i rights file memory ≡ gets file memory d w →
+      v ≡ w →
       (stop ≡ Moved) × (next ≡ advanced (with_register file d v)) →
       turn stop next memory ≡ performs i rights file memory
   unfolding performs ends gets
-  gets_done i d v same did = rw (same, did.0, did.1)
+  gets_done i d same e did = rw (same, did.0, did.1, e)
 
   pub stores_done :
-      (i : Instruction) (left : List ℕ) →
-      perform i rights file memory ≡ moved (advanced file) left →
+      (i : Instruction) {left other : List ℕ} →
+      perform i rights file memory ≡ moved (advanced file) other →
+      left ≡ other →
       (stop ≡ Moved) × (next ≡ advanced file) →
       turn stop next left ≡ performs i rights file memory
   unfolding performs ends
-  stores_done i left same did = rw (same, did.0, did.1)
+  stores_done i same e did = rw (same, did.0, did.1, e)
 
 -- The code asks a test, and goes on if the answer is true.
 

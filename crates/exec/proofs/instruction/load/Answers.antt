@@ -1,7 +1,8 @@
 -- Without access nothing changes, with it Rd becomes the word at Rs.
+use Rattle.std.proofs.Common.{refl}
 use Rattle.model.specs.Execute.{perform}
 use Rattle.model.specs.Memory.{loaded}
-use Rattle.exec.proofs.Moves.{asked_false, asked_inside, asked_true, gets_done}
+use Rattle.exec.proofs.Moves.{asked_false, asked_inside, asked_true, gets_done, one_read}
 use Rattle.exec.specs.Turn.{performs}
 use Rattle.exec.proofs.instruction.load.Goals as goal
 
@@ -15,6 +16,7 @@ bounds-mem-x c = asked_inside _ _ _ c.may_reach.ensures c.if-not-may_reach.false
 pub returns : goal.returns
 unfolding perform loaded
 returns c =
-    gets_done _ _ _ _ _ _
-    (rw c.get-x.ensures (asked_true _ _ _ c.get-x.ensures c.may_reach.ensures _ c.if-not-may_reach.false))
+    gets_done _ _ _ _ _
+    (asked_true _ _ _ c.get-x.ensures c.may_reach.ensures _ c.if-not-may_reach.false)
+    (one_read (loaded c.args.mem.now) refl c.get-x.ensures)
     c.gets.ensures
