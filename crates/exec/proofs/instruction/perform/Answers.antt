@@ -13,7 +13,9 @@ returns-in-1 c = rw c.in-1.is (gets_done _ _ _ _ _ refl refl c.gets.ensures)
 
 pub returns-in-2 : goal.returns-in-2
 unfolding perform opcode_at opcodes
-returns-in-2 c = rw c.in-2.is (gets_done _ _ _ _ _ refl (one_read (λ (a : ℕ). topped a c.args.f.k) c.topped.ensures c.get.ensures) c.gets-in-2.ensures)
+returns-in-2 c =
+    let read = one_read (λ (a : ℕ). topped a c.args.f.k) c.topped.ensures c.get.ensures in
+    rw c.in-2.is (gets_done _ _ _ _ _ refl read c.gets-in-2.ensures)
 
 pub returns-in-3 : goal.returns-in-3
 unfolding perform opcode_at opcodes
@@ -29,15 +31,21 @@ returns-in-5 c = rw c.in-5.is c.store.ensures
 
 pub returns-in-6 : goal.returns-in-6
 unfolding perform opcode_at opcodes
-returns-in-6 c = rw c.in-6.is (gets_done _ _ _ _ _ refl (two_read plus c.plus.ensures c.get-in-6.ensures c.get-in-6-2.ensures) c.gets-in-6.ensures)
+returns-in-6 c =
+    let read = two_read plus c.plus.ensures c.get-in-6.ensures c.get-in-6-2.ensures in
+    rw c.in-6.is (gets_done _ _ _ _ _ refl read c.gets-in-6.ensures)
 
 pub returns-in-7 : goal.returns-in-7
 unfolding perform opcode_at opcodes
-returns-in-7 c = rw c.in-7.is (gets_done _ _ _ _ _ refl (two_read minus c.minus.ensures c.get-in-7.ensures c.get-in-7-2.ensures) c.gets-in-7.ensures)
+returns-in-7 c =
+    let read = two_read minus c.minus.ensures c.get-in-7.ensures c.get-in-7-2.ensures in
+    rw c.in-7.is (gets_done _ _ _ _ _ refl read c.gets-in-7.ensures)
 
 pub returns-in-8 : goal.returns-in-8
 unfolding perform opcode_at opcodes
-returns-in-8 c = rw c.in-8.is (gets_done _ _ _ _ _ refl (one_read (λ (a : ℕ). plus a c.args.f.k) c.plus-in-8.ensures c.get-in-8.ensures) c.gets-in-8.ensures)
+returns-in-8 c =
+    let read = one_read (λ (a : ℕ). plus a c.args.f.k) c.plus-in-8.ensures c.get-in-8.ensures in
+    rw c.in-8.is (gets_done _ _ _ _ _ refl read c.gets-in-8.ensures)
 
 pub returns-in-9 : goal.returns-in-9
 unfolding opcode_at opcodes
