@@ -114,7 +114,7 @@ fn store(file: &mut Registers, d: u8, s: u8, maps: Maps, mem: &mut [u32]) -> Sto
 }
 
 // To the address in Rs if the flag is clear.
-#[tactic(auto, unfolding(crate::specs::Turn::performs, crate::specs::Turn::ends, model::specs::Execute::perform, model::specs::Execute::gets, model::specs::Memory::loaded))]
+#[tactic(auto, unfolding(crate::specs::Turn::performs, crate::specs::Turn::ends, model::specs::Execute::perform))]
 fn branch_unless(file: &mut Registers, s: u8) -> Stop
     requires { s < 8 }
     ensures { (rights : Rights) (memory : List ℕ) →
@@ -127,7 +127,7 @@ fn branch_unless(file: &mut Registers, s: u8) -> Stop
 }
 
 // The flag says whether Rd and Rs are the same word, and pc goes on.
-#[tactic(auto, unfolding(crate::specs::Turn::performs, crate::specs::Turn::ends, model::specs::Execute::perform, model::specs::Execute::gets, model::specs::Memory::loaded))]
+#[tactic(auto, unfolding(crate::specs::Turn::performs, crate::specs::Turn::ends, model::specs::Execute::perform))]
 fn compares(file: &mut Registers, d: u8, s: u8) -> Stop
     requires { (d < 8) × (s < 8) }
     ensures { (rights : Rights) (memory : List ℕ) →
