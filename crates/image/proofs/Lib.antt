@@ -1,4 +1,5 @@
 -- Theorems about images, and the laws that the proofs of the functions share.
+pub mod Opened
 pub mod Computed
 pub mod Cutting
 pub mod Reading

@@ -7,17 +7,19 @@ use crate::{Content, Record, bytes};
 
 impl Record {
     // Whether the record is of this kind and its payload of this size.
+    #[tactic(auto, unfolding(crate::specs::Contents::has_form, crate::proofs::Opened::joined_tests))]
     fn has_form(self, kind: u16, size: usize) -> bool
         ensures { result ≡ has_form self kind size }
     {
-        (self.kind == kind) & (self.size == size)
+        self.kind == kind && self.size == size
     }
 
     // Whether it is a kind 4 with an address and one or more whole words.
+    #[tactic(auto, unfolding(crate::specs::Contents::has_words, crate::proofs::Opened::joined_tests))]
     fn has_words(self) -> bool
         ensures { result ≡ has_words self }
     {
-        (self.kind == 4) & ((8 <= self.size) & (self.size % 4 == 0))
+        self.kind == 4 && 8 <= self.size && self.size % 4 == 0
     }
 }
 
@@ -35,6 +37,7 @@ fn described_at(bytes: &[u8], at: usize) -> Content
 }
 
 // What the record says, if its payload has its kind's form.
+#[tactic(auto, unfolding(crate::specs::Contents::content_of, crate::specs::Contents::has_form, crate::specs::Contents::has_words, crate::proofs::Opened::joined_tests))]
 pub fn content_of(bytes: &[u8], whole: Record) -> Option<Content>
     requires { whole.payload + whole.size ≤ length bytes.now }
     ensures { result ≡ content_of bytes.now whole }

@@ -6,24 +6,23 @@ ghost use Rattle.model.specs.Sound.{counts_in_range};
 ghost use Rattle.image.specs.Drafts.{Ranged, begun, unused, describable, ownable, inside, complete, fits, is_counts, may_stand, with_counts, with_guest, with_owner, with_budget, taken};
 
 use crate::{Content, Draft};
-use model::{Machine, Mailbox, Mode, PageId, VmId, VmSet};
+use model::{Machine, Mailbox, Mode, Owner, PageId, VmId, VmSet};
 
 // Kind 1: 2 to 8 guests, and pages for two mailboxes each up to 64.
+#[tactic(auto, unfolding(model::specs::Sound::counts_in_range, crate::proofs::Opened::joined_tests))]
 fn counts_fit(n: u16, m: u16) -> bool
     ensures { result ≡ counts_in_range n m }
 {
-    (2 <= n) & ((n <= 8) & ((2 * (n as u32) <= m as u32) & (m <= 64)))
+    2 <= n && n <= 8 && 2 * n <= m && m <= 64
 }
 
 // Kind 4: so many words from an address on lie inside the memory of m pages.
+#[tactic(auto, unfolding(crate::specs::Drafts::inside))]
 fn inside(m: u8, address: u32, count: usize) -> bool
     ensures { result ≡ inside m address count }
 {
     let size = 1024 * (m as usize);
-    if count > size {
-        return false;
-    }
-    address as usize <= size - count
+    count <= size && address as usize <= size - count
 }
 
 // Kind 5: every guest is described.
@@ -60,37 +59,38 @@ impl Draft {
     // What a record may say.
 
     // Whether this is a page that has no use so far.
-    #[tactic(auto, unfolding(model::specs::Sound::if_owned))]
+    #[tactic(auto, unfolding(model::specs::Sound::if_owned, model::specs::State::record_at, crate::specs::Drafts::unused, crate::proofs::Opened::joined_tests))]
     fn unused(&self, p: u16) -> bool
         requires { self.now.machine.m ≤ PAGES }
         ensures { result ≡ unused self.now.machine.m self.now.machine.records p }
     {
-        if p >= u16::from(self.machine.m) {
-            return false;
-        }
-        parts::same_record(self.machine.records[p as usize], parts::free_row(None))
+        p < u16::from(self.machine.m)
+            && parts::same_record(
+                self.machine.records[p as usize],
+                parts::free_row(Owner::Nobody),
+            )
     }
 
     // Kind 2: a guest that is not described yet, and two pages for its mailboxes.
+    #[tactic(auto, unfolding(crate::specs::Drafts::describable, crate::proofs::Opened::joined_tests))]
     fn describable(&self, guest: u16, tx: u16, rx: u16) -> bool
         requires { Ranged self.now }
         ensures { result ≡ describable self.now guest tx rx }
     {
-        if guest >= u16::from(self.machine.n) {
-            return false;
-        }
-        if parts::has(VmId(guest as u8), self.described) {
-            return false;
-        }
-        (tx != rx) & (self.unused(tx) & self.unused(rx))
+        guest < u16::from(self.machine.n)
+            && !parts::has(VmId(guest as u8), self.described)
+            && tx != rx
+            && self.unused(tx)
+            && self.unused(rx)
     }
 
     // Kind 3: a page, and a guest to own it.
+    #[tactic(auto, unfolding(crate::specs::Drafts::ownable, crate::proofs::Opened::joined_tests))]
     fn ownable(&self, page: u16, owner: u16) -> bool
         requires { self.now.machine.m ≤ PAGES }
         ensures { result ≡ ownable self.now page owner }
     {
-        self.unused(page) & (owner < u16::from(self.machine.n))
+        self.unused(page) && owner < u16::from(self.machine.n)
     }
 
     // By its kind.
@@ -109,17 +109,12 @@ impl Draft {
     }
 
     // Also in its place: kind 1 first and only there, and nothing behind kind 5.
+    #[tactic(auto, unfolding(model::specs::Tests::agree, crate::specs::Drafts::may_stand, crate::proofs::Opened::joined_tests))]
     pub fn may_stand(&self, at: usize, content: Content) -> bool
         requires { Ranged self.now }
         ensures { result ≡ may_stand at self.now content }
     {
-        if self.budget.is_some() {
-            return false;
-        }
-        if (at == 0) != content.is_counts() {
-            return false;
-        }
-        self.fits(content)
+        self.budget.is_none() && (at == 0) == content.is_counts() && self.fits(content)
     }
 
     // What it adds.
