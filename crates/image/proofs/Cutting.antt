@@ -41,7 +41,7 @@ any_taken kinds kind (suc n) h =
     = list_any_more (λ k. eqb k kind) kinds n 0 (omega arith) in
     rw (← add-one n, more, on) (same_either _ _)
 
-among_any : (kinds : List ℕ) (kind : ℕ) → list_any (λ k. eqb k kind) kinds ≡ among kinds kind
+pub among_any : (kinds : List ℕ) (kind : ℕ) → list_any (λ k. eqb k kind) kinds ≡ among kinds kind
 unfolding among
 among_any kinds kind =
     ap (list_any (λ k. eqb k kind)) (sym (take_all _ kinds (omega arith))) ∙ any_taken kinds kind (length kinds) (omega arith)

@@ -177,7 +177,7 @@ impl Draft {
     }
 
     // By its kind; words are for the memory, and add nothing here.
-    #[tactic(auto, unfolding(crate::specs::Drafts::taken))]
+    #[tactic(auto, unfolding(crate::specs::Drafts::fits, crate::specs::Drafts::taken, crate::specs::Drafts::describable, crate::specs::Drafts::ownable, crate::specs::Drafts::unused, model::specs::Sound::counts_in_range, crate::proofs::Opened::joined_tests))]
     pub fn taken(self, content: Content) -> Draft
         requires { Ranged self × (fits self content ≡ true) }
         ensures { result ≡ taken self content }

@@ -17,6 +17,7 @@ fn at_end(at: usize, draft: Draft) -> Result<Image, Broken>
 }
 
 // Whether the image is good: its machine and its budget, or the offset of the first record that is bad.
+#[tactic(auto, using(crate::proofs::Turns::cut_inside, crate::proofs::Turns::judging_goes_on))]
 pub fn judge(bytes: &[u8]) -> Result<Image, Broken>
     ensures { result ≡ judged_of bytes.now }
 {

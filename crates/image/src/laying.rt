@@ -20,6 +20,7 @@ fn lay_words(bytes: &[u8], from: usize, count: usize, address: u32, mem: &mut [u
 }
 
 // Those of one record, if it has any.
+#[tactic(auto, unfolding(crate::specs::Laying::record_laid, crate::specs::Laying::content_laid))]
 fn lay_record(bytes: &[u8], whole: Record, mem: &mut [u32])
     requires { whole.payload + whole.size ≤ length bytes.now }
     ensures { mem.new ≡ record_laid bytes.now whole mem.old }
@@ -31,6 +32,7 @@ fn lay_record(bytes: &[u8], whole: Record, mem: &mut [u32])
 }
 
 // Those of every record in turn, on zeros.
+#[tactic(auto, using(crate::proofs::Turns::cut_inside, crate::proofs::Turns::laying_goes_on))]
 pub fn lay(bytes: &[u8], mem: &mut [u32])
     ensures { mem.new ≡ memory_of bytes.now (length mem.old) }
 {

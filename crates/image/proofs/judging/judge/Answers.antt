@@ -1,9 +1,9 @@
--- Nothing is cut, what is cut says nothing or may not stand, a record is taken, or the image has come to its end.
-use Rattle.std.proofs.Common.{arith, rules, sym, ap, ◌∙◌, ◌≡◌}
+-- It begins; nothing is cut, what is cut says nothing, or it may not stand; or the image has come to its end.
+use Rattle.std.proofs.Common.{rules, sym, ap, ◌∙◌, ◌≡◌}
 use Rattle.std.specs.Prelude.{Err}
 use Rattle.image.proofs.Reading.{may_stand_fits}
-use Rattle.image.proofs.Turns.{cut_inside, had, lacked}
-use Rattle.image.proofs.Turns.{judging_begins, judging_ends, judging_goes_on, judging_refuses, judging_silent, judging_stops}
+use Rattle.image.proofs.Turns.{had, lacked}
+use Rattle.image.proofs.Turns.{judging_begins, judging_ends, judging_refuses, judging_silent, judging_stops}
 use Rattle.image.proofs.judging.judge.Goals as goal
 
 pub loop-at-init : goal.loop-at-init
@@ -15,9 +15,6 @@ returns-in_err-whole c =
     let told : c.from_residual.result ≡ Err c.in_err-whole.field-0.0 = search rules in
     let why = lacked _ _ c.ok_or.ensures.value c.in_err-whole.was in
     told ∙ ap Err why.1 ∙ judging_stops c.loop-at.invariant c.loop-at-test.true c.cut_image.ensures why.0
-
-pub content_of-requires : goal.content_of-requires
-content_of-requires c = (cut_inside _ _ c.cut_image.ensures (had c.ok_or.ensures.ok_part c.in_ok-whole.was)).1
 
 -- what is cut says nothing
 pub returns-in_err-content : goal.returns-in_err-content
@@ -52,25 +49,6 @@ taken-draft-requires c = (
   c.loop-at.invariant.ranged,
   may_stand_fits _ _ _ (sym c.may_stand.ensures ∙ c.if-not-may_stand.false),
 )
-
-pub overflow_add-at : goal.overflow_add-at
-overflow_add-at c = omega (arith, cut_inside _ _ c.cut_image.ensures (had c.ok_or.ensures.ok_part c.in_ok-whole.was))
-
-pub loop-at-smaller : goal.loop-at-smaller
-loop-at-smaller c = omega (arith, cut_inside _ _ c.cut_image.ensures (had c.ok_or.ensures.ok_part c.in_ok-whole.was))
-
-pub loop-at-preserved : goal.loop-at-preserved
-loop-at-preserved c =
-    judging_goes_on
-    c.loop-at.invariant
-    c.loop-at-test.true
-    c.cut_image.ensures
-    (had c.ok_or.ensures.ok_part c.in_ok-whole.was)
-    c.content_of.ensures
-    (had c.ok_or-in-loop-at.ensures.ok_part c.in_ok-content.was)
-    c.may_stand.ensures
-    c.if-not-may_stand.false
-    c.taken-draft.ensures
 
 pub returns : goal.returns
 returns c = judging_ends c.loop-at.invariant c.loop-at-test.false c.at_end.ensures
