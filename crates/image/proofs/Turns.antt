@@ -16,10 +16,10 @@ use Rattle.model.specs.declared.Loaded.{Loaded}
 use Rattle.model.specs.Constants.{PAGE}
 use Rattle.model.specs.Answer.{answer_number, answers}
 use Rattle.model.specs.Blank.{blank, refused_load}
-use Rattle.parts.proofs.Loops.{set_none, set_more, set_whole}
+use Rattle.parts.proofs.Loops.{set_none, set_more}
 use Rattle.image.specs.declared.Record.{Record}
 use Rattle.image.specs.declared.Content.{Content}
-use Rattle.image.specs.declared.Content.TheVariants.{Counts, Described, Owned, Words, Budget}
+use Rattle.image.specs.declared.Content.TheVariants.{Words}
 use Rattle.image.specs.declared.Draft.{Draft}
 use Rattle.image.specs.declared.Image.{Image}
 use Rattle.image.specs.declared.Broken.{Broken}
@@ -28,7 +28,7 @@ use Rattle.image.specs.Pieces.{image_kinds, end_of, cut}
 use Rattle.image.specs.Contents.{content_of}
 use Rattle.image.specs.Drafts.{Ranged, begun, may_stand, taken}
 use Rattle.image.specs.Judging.{Judged, broken, good, with_budget_read, at_end, heard, tried, turn, follow, judged_from, judged_of}
-use Rattle.image.specs.Laying.{words_laid, content_laid, record_laid, piece_laid, laid_from, memory_of}
+use Rattle.image.specs.Laying.{words_laid, record_laid, piece_laid, laid_from, memory_of}
 use Rattle.image.specs.Loading.{left_by_load, loaded_into, loaded_by, load_of}
 use Rattle.image.proofs.Cutting.{cut_whole, words_inside}
 use Rattle.image.proofs.Reading.{begun_ranged, taken_ranged, may_stand_fits}
@@ -160,35 +160,7 @@ module _ (bytes : List ℕ) (from x : ℕ) (memory : List ℕ) where
       → now ≡ words_laid bytes from (i + 1) x memory
   words_pass i {now} h e = sym (set_out now (x + i) (word_at bytes (from + 4 * i)) h) ∙ words_more i refl e
 
-  pub words_whole : {i k : ℕ} {now : List ℕ} → i ≤ k → k ≤ i → now ≡ words_laid bytes from i x memory
-      → now ≡ words_laid bytes from k x memory
-  unfolding words_laid
-  words_whole h b e = set_whole (λ (k : ℕ). x + k) (λ (k : ℕ). word_at bytes (from + 4 * k)) memory h b e
-
--- What a record lays, by what it says: its words, if it has any, and else nothing.
-
-module _ (bytes : List ℕ) (r : Record) (memory : List ℕ) {said : Option Content} (is : said ≡ content_of bytes r) where
-  pub laid_words : {content : Content} {x k : ℕ} {now : List ℕ} → said ≡ Some content → content ≡ Words x k
-      → now ≡ words_laid bytes (r.payload + 4) k x memory → now ≡ record_laid bytes r memory
-  unfolding record_laid content_laid
-  laid_words some says e = rw (← is, some, says) e
-
-  pub laid_silent : said ≡ None → memory ≡ record_laid bytes r memory
-  unfolding record_laid content_laid
-  laid_silent none = rw (← is, none)
-
-  pub laid_other : {content : Content} → said ≡ Some content → ((x k : ℕ) → content ≡ Words x k → ⊥) → memory ≡ record_laid bytes r memory
-  unfolding record_laid content_laid
-  laid_other {content} some other = rw (← is, some) (nothing content other)
-    where
-      nothing : (content : Content) → ((x k : ℕ) → content ≡ Words x k → ⊥) → memory ≡ content_laid bytes r (Some content) memory
-      nothing (Counts n m) other = refl
-      nothing (Described g tx rx pc) other = refl
-      nothing (Owned p g) other = refl
-      nothing (Words x k) other = absurd (other x k refl)
-      nothing (Budget steps) other = refl
-
--- its words stand in the image
+-- The words of a record stand in the image.
 pub laid_inside : (bytes : List ℕ) (r : Record) {said : Option Content} {content : Content} {x k : ℕ}
     → said ≡ content_of bytes r → said ≡ Some content → content ≡ Words x k → r.payload + r.size ≤ length bytes
     → r.payload + 4 + 4 * k ≤ length bytes

@@ -1,21 +1,15 @@
 -- The kind is not among those given, or all is well.
-use Rattle.std.proofs.Common.{arith, sym}
-use Rattle.image.proofs.Cutting.{cut_taken, cut_unknown}
+use Rattle.std.proofs.Common.{arith, ◌∙◌}
+use Rattle.std.proofs.lemmas.Grind.{common_steps}
+use Rattle.isa.specs.Tests.{◌and◌}
+use Rattle.image.specs.Pieces.{record_from, end_of, cut}
+use Rattle.image.proofs.Cutting.{among_any}
 use Rattle.image.proofs.pieces.cut.Goals as goal
 
 pub returns-then-not-contains : goal.returns-then-not-contains
-returns-then-not-contains c =
-    sym (cut_unknown _ _ _ c.number-kind.ensures c.contains.ensures.value c.if-not-contains.true)
+unfolding record_from end_of cut ◌and◌
+returns-then-not-contains c = grind (arith, common_steps, c.contains.ensures.value ∙ among_any c.args.kinds.now c.number-kind.result)
 
 pub returns : goal.returns
-returns c =
-    sym
-    (cut_taken
-    _
-    _
-    _
-    c.number-kind.ensures
-    c.number-size.ensures
-    (omega arith)
-    c.contains.ensures.value
-    c.if-not-contains.false)
+unfolding record_from end_of cut ◌and◌
+returns c = grind (arith, common_steps, c.contains.ensures.value ∙ among_any c.args.kinds.now c.number-kind.result)
