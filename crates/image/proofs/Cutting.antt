@@ -52,9 +52,3 @@ pub cut_whole :
     (r.payload ≡ at + 4) × (end_of r ≤ length bytes)
 unfolding record_from end_of cut ◌and◌
 cut_whole kinds bytes at e = grind (arith, common_steps)
-
--- the words lie behind the address, up to the record's end
-pub words_inside :
-    (bytes : List ℕ) (r : Record) {x k : ℕ} → content_of bytes r ≡ Some (Words x k) → r.payload + 4 + 4 * k ≤ end_of r
-unfolding content_of has_words end_of ◌and◌
-words_inside bytes r e = grind (arith, common_steps)

@@ -1,4 +1,4 @@
--- The loops over an image and over its words: each begins, goes on, stops, has come to the end. And the ways out of load.
+-- The loops over an image: each begins, goes on, stops, has come to the end. And the ways out of load.
 use Prim.Native.Nat.{ℕ, zero, suc, ◌+◌, ◌*◌, ◌-◌, ◌≤◌, ◌<◌}
 use Rattle.std.specs.Prelude.{Option, Some, None, Result, Ok, Err, ok_or}
 use Rattle.std.specs.Result.{result_ok}
@@ -142,30 +142,6 @@ pub judging_ends : {bytes : List ℕ} {at : ℕ} {d : Draft} {told : Judged}
     → Judging bytes at d → length bytes ≤ at → told ≡ at_end at d → told ≡ judged_of bytes
 judging_ends {bytes} {at} {d} j h e =
     e ∙ sym (judged_end j.more bytes at d (le_antisymm j.inside h)) ∙ j.rest
-
--- The words of a record, the first i of them laid.
-
-module _ (bytes : List ℕ) (from x : ℕ) (memory : List ℕ) where
-  pub words_none : memory ≡ words_laid bytes from 0 x memory
-  unfolding words_laid
-  words_none = set_none _ _ memory
-
-  pub words_more : (i : ℕ) {now : List ℕ} {word : ℕ} → word ≡ word_at bytes (from + 4 * i) → now ≡ words_laid bytes from i x memory
-      → set now (x + i) word ≡ words_laid bytes from (i + 1) x memory
-  unfolding words_laid
-  words_more i is e = rw is (set_more i (λ (k : ℕ). x + k) (λ (k : ℕ). word_at bytes (from + 4 * k)) memory e)
-
-  -- a place outside the memory is passed over
-  pub words_pass : (i : ℕ) {now : List ℕ} → length now ≤ x + i → now ≡ words_laid bytes from i x memory
-      → now ≡ words_laid bytes from (i + 1) x memory
-  words_pass i {now} h e = sym (set_out now (x + i) (word_at bytes (from + 4 * i)) h) ∙ words_more i refl e
-
--- The words of a record stand in the image.
-pub laid_inside : (bytes : List ℕ) (r : Record) {said : Option Content} {content : Content} {x k : ℕ}
-    → said ≡ content_of bytes r → said ≡ Some content → content ≡ Words x k → r.payload + r.size ≤ length bytes
-    → r.payload + 4 + 4 * k ≤ length bytes
-unfolding end_of
-laid_inside bytes r is some says h = omega (arith, words_inside bytes r (sym is ∙ some ∙ ap Some says))
 
 -- Laying: what is laid from an offset on, over this memory, is what the whole image means.
 

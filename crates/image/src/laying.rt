@@ -7,6 +7,7 @@ ghost use Rattle.image.specs.Laying.{words_laid, record_laid, memory_of};
 use crate::{Content, Record, bytes, contents, pieces};
 
 // So many words that stand in the bytes from an offset on, from an address on.
+#[tactic(auto, unfolding(crate::specs::Laying::words_laid, model::specs::Tests::set_each))]
 fn lay_words(bytes: &[u8], from: usize, count: usize, address: u32, mem: &mut [u32])
     requires { from + 4 * count ≤ length bytes.now }
     ensures { mem.new ≡ words_laid bytes.now from count address mem.old }
@@ -20,7 +21,7 @@ fn lay_words(bytes: &[u8], from: usize, count: usize, address: u32, mem: &mut [u
 }
 
 // Those of one record, if it has any.
-#[tactic(auto, unfolding(crate::specs::Laying::record_laid, crate::specs::Laying::content_laid))]
+#[tactic(auto, unfolding(crate::specs::Laying::record_laid, crate::specs::Laying::content_laid, crate::specs::Contents::content_of, crate::specs::Contents::has_words, crate::proofs::Opened::joined_tests))]
 fn lay_record(bytes: &[u8], whole: Record, mem: &mut [u32])
     requires { whole.payload + whole.size ≤ length bytes.now }
     ensures { mem.new ≡ record_laid bytes.now whole mem.old }
