@@ -1,5 +1,5 @@
--- The laws of cutting a record out of the bytes, and of what it says.
-use Prim.Native.Nat.{ℕ, zero, suc, ◌+◌, ◌*◌, ◌≤◌}
+-- The laws of cutting a record out of the bytes.
+use Prim.Native.Nat.{ℕ, zero, suc, ◌+◌, ◌≤◌}
 use mathlib.Core.Path.{◌≡◌, refl, sym, ap, ◌∙◌}
 use mathlib.Core.Bool.{Bool, true, false}
 use mathlib.Core.List.{List}
@@ -16,9 +16,7 @@ use Rattle.std.proofs.lemmas.Grind.{common_steps}
 use Rattle.isa.specs.Tests.{◌and◌, ◌or◌}
 use Rattle.model.specs.Tests.{some}
 use Rattle.image.specs.declared.Record.{Record}
-use Rattle.image.specs.declared.Content.TheVariants.{Words}
 use Rattle.image.specs.Pieces.{among, record_from, end_of, cut}
-use Rattle.image.specs.Contents.{has_words, content_of}
 
 -- Whether a kind is among those given, one after the other.
 

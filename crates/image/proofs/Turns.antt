@@ -7,8 +7,7 @@ use mathlib.Core.Bool.{Bool, true, false}
 use mathlib.Core.List.{List}
 use native.Mathlib.Nat.{le_antisymm}
 use native.Mathlib.Omega.{arith}
-use lib.ListN.{length, set, replicate}
-use lib.Seq.{set_out}
+use lib.ListN.{length, replicate}
 use lib.Dec.{eqb}
 use borrow.Author.Tests.{eq-eqb, ne_eqb}
 use Rattle.model.specs.declared.Answer.TheVariants.{Done, WrongMemory, BrokenImage}
@@ -16,21 +15,18 @@ use Rattle.model.specs.declared.Loaded.{Loaded}
 use Rattle.model.specs.Constants.{PAGE}
 use Rattle.model.specs.Answer.{answer_number, answers}
 use Rattle.model.specs.Blank.{blank, refused_load}
-use Rattle.parts.proofs.Loops.{set_none, set_more}
 use Rattle.image.specs.declared.Record.{Record}
 use Rattle.image.specs.declared.Content.{Content}
-use Rattle.image.specs.declared.Content.TheVariants.{Words}
 use Rattle.image.specs.declared.Draft.{Draft}
 use Rattle.image.specs.declared.Image.{Image}
 use Rattle.image.specs.declared.Broken.{Broken}
-use Rattle.image.specs.Bytes.{word_at}
 use Rattle.image.specs.Pieces.{image_kinds, end_of, cut}
 use Rattle.image.specs.Contents.{content_of}
 use Rattle.image.specs.Drafts.{Ranged, begun, may_stand, taken}
 use Rattle.image.specs.Judging.{Judged, broken, good, with_budget_read, at_end, heard, tried, turn, follow, judged_from, judged_of}
-use Rattle.image.specs.Laying.{words_laid, record_laid, piece_laid, laid_from, memory_of}
+use Rattle.image.specs.Laying.{record_laid, piece_laid, laid_from, memory_of}
 use Rattle.image.specs.Loading.{left_by_load, loaded_into, loaded_by, load_of}
-use Rattle.image.proofs.Cutting.{cut_whole, words_inside}
+use Rattle.image.proofs.Cutting.{cut_whole}
 use Rattle.image.proofs.Reading.{begun_ranged, taken_ranged, may_stand_fits}
 
 -- A record that was cut: where its payload begins, and that it ends inside the image.
