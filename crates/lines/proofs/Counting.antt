@@ -3,15 +3,16 @@ use Prim.Native.Nat.{ℕ, zero, suc, ◌+◌, ◌-◌, ◌*◌, ◌/◌, ◌%◌
 use mathlib.Core.Bool.{Bool, true, false}
 use mathlib.Core.Path.{◌≡◌, refl, sym, ap, ◌∙◌}
 use mathlib.Core.List.{List, [], ◌∷◌, ◌++◌}
-use native.Mathlib.Nat.{pow-suc, pow-le-pow_right, one-le-pow, div-div-eq-div-mul, div-eq_of_lt, lt-div-mul-add, mod-lt}
+use native.Mathlib.Nat.{pow-suc, pow-le-pow_right, mod-lt}
 use native.Mathlib.Omega.{arith}
 use native.Mathlib.Decide.{dec_lt}
 use native.Mathlib.Numerals.{add-one}
-use borrow.Author.Count.{below_more}
 use borrow.Author.Tests.{lt-ltb, le-ltb}
 use lib.Dec.{ltb}
 use lib.ListN.{length, set, length-append, length-set}
-use Rattle.model.specs.Tests.{first}
+use Rattle.std.specs.Option.{IfNone, IfSome, unwrap_or}
+use Rattle.std.specs.Prelude.{Option, None, Some}
+use Rattle.model.specs.Tests.{first, or_next}
 use Rattle.model.proofs.Tests.{first_is, none_first, passes_first}
 use Rattle.lines.specs.Text.{glyph_of, digits, places_of, decimal, hex8}
 use Rattle.lines.specs.Laid.{laid_text, Laid}
@@ -80,65 +81,32 @@ spelt_whole {first} {at} {b} {count} {n} {out} {i} {rest} c h =
 abbrev pub small : ℕ → ℕ → Bool
 small n k = ltb n (10 ^ suc k)
 
-rest_next : (n more : ℕ) → n / 10 ^ suc more / 10 ≡ n / 10 ^ suc (more + 1)
-rest_next n more = div-div-eq-div-mul n (10 ^ suc more) 10 ∙ rw (add-one, pow-suc 10 (suc more)) refl
-
--- something is left if the number has more
-rest_large : (n more : ℕ) → 0 < n / 10 ^ suc more → 10 ^ suc more ≤ n
-rest_large n more h =
-    elim (dec_lt n (10 ^ suc more)) [
-      | yes l ↦ let none : n / 10 ^ suc more ≡ 0 = div-eq_of_lt l in absurd (omega arith)
-      | no l ↦ omega arith
-    ]
-
-rest_none : (n more : ℕ) → n / 10 ^ suc more ≡ 0 → n < 10 ^ suc more
-rest_none n more e =
-    let close : n < n / 10 ^ suc more * 10 ^ suc more + 10 ^ suc more = lt-div-mul-add (one-le-pow (suc more) 10 (omega arith)) in
-    let less : n < 0 * 10 ^ suc more + 10 ^ suc more = rw e at close in
-    omega arith
-
--- a number of the machine never has 20 more
-places_room : (n more : ℕ) → n < 2 ^ 64 → 10 ^ suc more ≤ n → more + 1 ≤ 19
-places_room n more fits h =
-    elim (dec_lt more 19) [
-      | yes l ↦ omega arith
-      | no l ↦
-          let many : 20 ≤ suc more = omega arith in
-          let huge : 10 ^ 20 ≤ 10 ^ suc more = pow-le-pow_right (omega arith) many in
-          absurd (omega arith)
-    ]
-
-pub record Places (n more rest : ℕ) : Type 0 where
-  pub left : rest ≡ n / 10 ^ suc more
-  pub passed : (j : ℕ) → j < more → small n j ≡ false
-  pub room : more ≤ 19
-
-pub places_none : (n : ℕ) → Places n 0 (n / 10)
-places_none n = record { left = refl; passed = λ j h. absurd (omega arith); room = omega arith }
-
-pub places_more : {n more rest : ℕ} → Places n more rest → n < 2 ^ 64 → 0 < rest → Places n (more + 1) (rest / 10)
-places_more {n} {more} {rest} c fits h =
-    let large : 10 ^ suc more ≤ n = rest_large n more (rw c.left at h) in
-    record {
-      left = rw c.left (rest_next n more);
-      passed = below_more (λ j. small n j ≡ false) more c.passed (le-ltb n (10 ^ suc more) large);
-      room = places_room n more fits large;
-    }
-
-pub places_whole : {n more rest : ℕ} → Places n more rest → rest ≤ 0 → more + 1 ≡ places_of n
+-- the number is at least a power of ten, and below the next
+places_between : (n k : ℕ) → k < 20 → 10 ^ k ≤ n → n < 10 * 10 ^ k → places_of n ≡ k + 1
 unfolding places_of
-places_whole {n} {more} {rest} c h =
-    let none : n / 10 ^ suc more ≡ 0 = rw (← c.left) (omega arith) in
-    let here : small n more ≡ true = lt-ltb n (10 ^ suc more) (rest_none n more none) in
-    let found : first 19 (small n) ≡ more =
-    elim (dec_lt more 19) [
-      | yes l ↦ first_is 19 (small n) more l here c.passed
+places_between n k few low high =
+    let here : small n k ≡ true = lt-ltb n (10 ^ suc k) (rw (pow-suc 10 k) (omega arith)) in
+    let passed : (j : ℕ) → j < k → small n j ≡ false = λ j h.
+    let power : 10 ^ suc j ≤ 10 ^ k = pow-le-pow_right (omega arith) (omega arith) in
+    le-ltb n (10 ^ suc j) (omega arith)
+    in
+    let found : first 19 (small n) ≡ k =
+    elim (dec_lt k 19) [
+      | yes l ↦ first_is 19 (small n) k l here passed
       | no l ↦
-          let last : more ≡ 19 = omega (arith, c.room) in
-          rw last (none_first 19 (small n) (rw last at c.passed))
+          let last : k ≡ 19 = omega arith in
+          rw last (none_first 19 (small n) (rw last at passed))
     ]
     in
-    rw (add-one, ← found) refl
+    rw (add-one, found) refl
+
+-- the exponent of that power, or 0 where there is none, which is of the number 0
+pub places_by_power : (n : ℕ) (power : Option ℕ)
+    → IfNone power (n ≡ 0) → IfSome power (λ k. 10 ^ k ≤ n) → IfSome power (λ k. n < 10 * 10 ^ k) → IfSome power (λ k. k < 20)
+    → unwrap_or power 0 + 1 ≡ places_of n
+unfolding places_of first or_next
+places_by_power n None none low high few = rw none refl
+places_by_power n (Some k) none low high few = sym (places_between n k few low high)
 
 -- The room that numbers take.
 

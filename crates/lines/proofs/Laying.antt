@@ -1,11 +1,13 @@
 -- Texts laid one behind the other. Assumes nothing.
-use Prim.Native.Nat.{ℕ, ◌+◌, ◌≤◌, ◌<◌}
+use Prim.Native.Nat.{ℕ, ◌+◌, ◌-◌, ◌≤◌, ◌<◌}
 use mathlib.Core.Path.{◌≡◌, refl, sym, ap, ◌∙◌}
 use mathlib.Core.List.{List, [], ◌∷◌, ◌++◌, append_assoc}
 use native.Mathlib.Omega.{arith}
 use native.Mathlib.Numerals.{add-one}
-use lib.ListN.{length, take, drop, get_or, set, length-append, length-take, length-drop, length-set, take-append-drop}
-use lib.Seq.{length-take-le, take_at, drop_at, take-append-le, drop-append-add, drop-drop, take-take, set_split, take-suc, take_all}
+use lib.ListN.{length, take, drop, set, length-append, length-take, length-drop, length-set, take-append-drop}
+use borrow.Rule.Slice.PartMut.{put_mid}
+use Rattle.std.proofs.lemmas.Slice.{put_mid-paste}
+use lib.Seq.{paste, take-length, length-take-le, take_at, drop_at, take-append-le, drop-append-add, drop-drop, take-take, set_split}
 use Rattle.lines.specs.Laid.{laid_text, Laid}
 
 module _ (out : List ℕ) (at : ℕ) where
@@ -87,39 +89,18 @@ laid_behind {a} {b} {at} {r} {t} x c h =
     laying (laid_one b r x h) refl (omega (arith, length-set b r x)) (length-set b r x) in
     laid_then c one
 
--- The loop that copies a text: its first i bytes are laid.
+-- A text copied over a part of the buffer is laid there.
 
-pub record Copied (first : List ℕ) (at : ℕ) (text out : List ℕ) (i : ℕ) : Type 0 where
-  pub fits : at + length text ≤ length first
-  pub so_far : i ≤ length text
-  pub kept : length out ≡ length first
-  pub laid : out ≡ laid_text first at (take i text)
+module _ (before : List ℕ) (at : ℕ) (text : List ℕ) where
+  pasted : paste before at text (length text) ≡ laid_text before at text
+  unfolding laid_text
+  pasted = rw (take-length text) refl
 
-pub copied_none : (out : List ℕ) (at : ℕ) (text : List ℕ) → at + length text ≤ length out → Copied out at text out 0
-copied_none out at text h = record { fits = h; so_far = omega arith; kept = refl; laid = sym (laid_none out at) }
-
-pub copied_more : {first : List ℕ} {at : ℕ} {text out : List ℕ} {i : ℕ}
-    → Copied first at text out i
-    → i < length text
-    → Copied first at text (set out (at + i) (get_or text i 0)) (i + 1)
-copied_more {first} {at} {text} {out} {i} c h =
-    let so_far : length (take i text) ≡ i = length-take-le i text c.so_far in
-    let place : at + length (take i text) ≡ at + i = omega arith in
-    let long : length (laid_text first at (take i text)) ≡ length first = laid_length first at (take i text) (omega arith) in
-    let more : take (i + 1) text ≡ take i text ++ (get_or text i 0 ∷ []) = rw add-one (take-suc text i 0 h) in
-    let both : laid_text first at (take (i + 1) text) ≡ laid_text (laid_text first at (take i text)) (at + i) (get_or text i 0 ∷ []) =
-    rw (more, ← place) (sym (laid_two first at (take i text) (get_or text i 0 ∷ []) (omega arith)))
-    in
-    record {
-      fits = c.fits;
-      so_far = omega arith;
-      kept = length-set out (at + i) (get_or text i 0) ∙ c.kept;
-      laid = rw (c.laid, both) (laid_one _ (at + i) (get_or text i 0) (omega arith));
-    }
-
-pub copied_whole : {first : List ℕ} {at : ℕ} {text out : List ℕ} {i : ℕ}
-    → Copied first at text out i
-    → length text ≤ i
-    → Laid first at text out (at + i)
-copied_whole {first} {at} {text} {out} {i} c l =
-    laying (rw (take_all i text l) at c.laid) (omega arith) (omega arith) c.kept
+  pub text_laid : {part after : List ℕ} → at + length text ≤ length before → part ≡ text
+      → after ≡ put_mid at (at + length text - at) before part → Laid before at text after (at + length text)
+  text_laid {part} {after} h e is =
+      let there : after ≡ laid_text before at text =
+      is ∙ put_mid-paste at _ before part text (length text) e (omega arith) refl ∙ pasted
+      in
+      let kept : length after ≡ length before = rw there (laid_length before at text h) in
+      laying there refl (omega arith) kept

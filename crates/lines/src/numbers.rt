@@ -17,13 +17,8 @@ fn glyph(d: usize) -> u8
 fn places(n: usize) -> usize
     ensures { result ≡ places_of n }
 {
-    let mut more: usize = 0;
-    let mut rest = n / 10;
-    while rest > 0 {
-        rest /= 10;
-        more += 1;
-    }
-    more + 1
+    let power = n.checked_ilog10().unwrap_or(0);
+    power as usize + 1
 }
 
 // The last so many digits in a base, from the last one to the first.
@@ -32,13 +27,9 @@ fn put_digits(out: &mut [u8], at: usize, base: usize, count: usize, n: usize) ->
     requires count_in_bounds { at + count ≤ length out.old }
     ensures { Laid out.old at (digits base count n) out.new result }
 {
-    let mut i = count;
     let mut rest = n;
-    while i > 0 {
-        i -= 1;
-        let place = at + i;
-        let code = glyph(rest % base);
-        out[place] = code;
+    for i in (0..count).rev() {
+        out[at + i] = glyph(rest % base);
         rest /= base;
     }
     at + count

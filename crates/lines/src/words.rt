@@ -11,13 +11,9 @@ pub fn put_text(out: &mut [u8], at: usize, text: &[u8]) -> usize
     requires { at + length text.now ≤ length out.old }
     ensures { Laid out.old at text.now out.new result }
 {
-    let mut i: usize = 0;
-    while i < text.len() {
-        let place = at + i;
-        out[place] = text[i];
-        i += 1;
-    }
-    at + i
+    let end = at + text.len();
+    out[at..end].copy_from_slice(text);
+    end
 }
 
 // The word of a mode, at most six letters, and the end of the line.
