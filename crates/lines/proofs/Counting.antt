@@ -2,7 +2,7 @@
 use Prim.Native.Nat.{ℕ, zero, suc, ◌+◌, ◌-◌, ◌*◌, ◌/◌, ◌%◌, ◌^◌, ◌≤◌, ◌<◌}
 use mathlib.Core.Bool.{Bool, true, false}
 use mathlib.Core.Path.{◌≡◌, refl, sym, ap, ◌∙◌}
-use mathlib.Core.List.{List, [], ◌∷◌, ◌++◌}
+use mathlib.Core.List.{List}
 use native.Mathlib.Nat.{pow-suc, pow-le-pow_right, mod-lt}
 use native.Mathlib.Omega.{arith}
 use native.Mathlib.Decide.{dec_lt}
@@ -14,9 +14,9 @@ use Rattle.std.specs.Option.{IfNone, IfSome, unwrap_or}
 use Rattle.std.specs.Prelude.{Option, None, Some}
 use Rattle.model.specs.Tests.{first, or_next}
 use Rattle.model.proofs.Tests.{first_is, none_first, passes_first}
-use Rattle.lines.specs.Text.{glyph_of, digits, places_of, decimal, hex8}
+use Rattle.lines.specs.Text.{glyph_of, digits, places_of, decimal}
 use Rattle.lines.specs.Laid.{laid_text, Laid}
-use Rattle.lines.proofs.Laying.{laying, laid_none, laid_one, laid_back, laid_behind}
+use Rattle.lines.proofs.Laying.{laying, laid_none, laid_one, laid_back}
 
 pub digits_length : (b k n : ℕ) → length (digits b k n) ≡ k
 unfolding digits
@@ -121,35 +121,7 @@ pub decimal_length : (n : ℕ) → length (decimal n) ≡ places_of n
 unfolding decimal
 decimal_length n = digits_length 10 (places_of n) n
 
-pub hex8_length : (n : ℕ) → length (hex8 n) ≡ 8
-unfolding hex8
-hex8_length n = digits_length 16 8 n
-
--- Numbers with a byte behind them.
-
-pub behind_fits : {a b : List ℕ} {at r : ℕ} (base count n : ℕ) → Laid a at (digits base count n) b r → at + count + 1 ≤ length a → r < length b
-behind_fits base count n c h = omega (arith, c.next, c.kept, digits_length base count n)
-
-pub decimal_laid : {a b : List ℕ} {at r : ℕ} (n x count : ℕ)
-    → count ≡ places_of n
-    → Laid a at (digits 10 count n) b r
-    → r < length b
-    → Laid a at (decimal n ++ (x ∷ [])) (set b r x) (r + 1)
-unfolding decimal
-decimal_laid n x count e c h = laid_behind x (rw e at c) h
-
-pub hex8_laid : {a b : List ℕ} {at r : ℕ} (n x : ℕ)
-    → Laid a at (digits 16 8 n) b r
-    → r < length b
-    → Laid a at (hex8 n ++ (x ∷ [])) (set b r x) (r + 1)
-unfolding hex8
-hex8_laid n x c h = laid_behind x c h
-
--- the offset behind a number and one byte
-pub decimal_behind : {a b : List ℕ} {at r : ℕ} (n k x : ℕ) → n < 10 ^ suc k → Laid a at (decimal n ++ (x ∷ [])) b r → r ≤ at + k + 2
-decimal_behind n k x h c =
-    let few : length (decimal n) ≤ suc k = decimal_short n k h in
-    omega (arith, c.next, length-append (decimal n) (x ∷ []))
-
-pub hex8_behind : {a b : List ℕ} {at r : ℕ} (n x : ℕ) → Laid a at (hex8 n ++ (x ∷ [])) b r → r ≡ at + 9
-hex8_behind n x c = omega (arith, c.next, length-append (hex8 n) (x ∷ []), hex8_length n)
+-- the step and the caller of a line
+pub line_short : (step caller : ℕ) → step < 2 ^ 32 → caller < 2 ^ 8 → length (decimal step) + length (decimal caller) ≤ 13
+line_short step caller s c =
+    omega (arith, decimal_short step 9 (omega arith), decimal_short caller 2 (omega arith))

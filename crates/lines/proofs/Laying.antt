@@ -4,11 +4,13 @@ use mathlib.Core.Path.{◌≡◌, refl, sym, ap, ◌∙◌}
 use mathlib.Core.List.{List, [], ◌∷◌, ◌++◌, append_assoc}
 use native.Mathlib.Omega.{arith}
 use native.Mathlib.Numerals.{add-one}
-use lib.ListN.{length, take, drop, set, length-append, length-take, length-drop, length-set, take-append-drop}
+use lib.ListN.{length, take, drop, set, length-append, length-take, length-drop, take-append-drop}
 use borrow.Rule.Slice.PartMut.{put_mid}
 use Rattle.std.proofs.lemmas.Slice.{put_mid-paste}
 use lib.Seq.{paste, take-length, length-take-le, take_at, drop_at, take-append-le, drop-append-add, drop-drop, take-take, set_split}
+use Rattle.lines.specs.declared.writer.Writer.{Writer}
 use Rattle.lines.specs.Laid.{laid_text, Laid}
+use Rattle.lines.specs.Wrote.{Wrote}
 
 module _ (out : List ℕ) (at : ℕ) where
   -- nothing laid changes nothing
@@ -82,12 +84,9 @@ laid_then {a} {b} {c} {at} {r} {s} {t} {u} one two =
     let both : c ≡ laid_text (laid_text a at t) (at + length t) u = rw (← one.laid, ← one.next) two.laid in
     laying (both ∙ laid_two a at t u fits) (omega (arith, length-append t u)) two.within (two.kept ∙ one.kept)
 
--- a byte set behind what was laid
-pub laid_behind : {a b : List ℕ} {at r : ℕ} {t : List ℕ} (x : ℕ) → Laid a at t b r → r < length b → Laid a at (t ++ (x ∷ [])) (set b r x) (r + 1)
-laid_behind {a} {b} {at} {r} {t} x c h =
-    let one : Laid b r (x ∷ []) (set b r x) (r + 1) =
-    laying (laid_one b r x h) refl (omega (arith, length-set b r x)) (length-set b r x) in
-    laid_then c one
+-- what was written behind a text, together with it
+pub wrote_then : {a b c : Writer} {t u : List ℕ} → Wrote a t b → Wrote b u c → Wrote a (t ++ u) c
+wrote_then one two = record { same_buffer = two.same_buffer ∙ one.same_buffer; laid = laid_then one.laid two.laid }
 
 -- A text copied over a part of the buffer is laid there.
 

@@ -6,15 +6,14 @@
 #![tactic(auto)]
 
 mod numbers;
-mod words;
+mod writer;
 
 ghost use Rattle.std.specs.Prelude.{◌+◌, ◌≤◌, length};
 ghost use Rattle.lines.specs.Laid.{Laid, LINE, END, REFUSED, BROKEN};
 ghost use Rattle.lines.specs.Text.{line_text, end_text, refused_text, broken_text};
 
 use model::{Mode, VmId};
-use numbers::{put_decimal, put_hex};
-use words::{put_mode, put_text};
+use writer::Writer;
 
 // A call: its step, the caller, and of the caller's registers R0 before, R0 after and R2 after.
 pub fn put_line(
@@ -32,12 +31,13 @@ pub fn put_line(
         out.new result }
     ensures upper_bound { result ≤ at + LINE }
 {
-    let guest = caller.0;
-    let a = put_decimal(out, at, step as usize, b' ');
-    let b = put_decimal(out, a, guest as usize, b' ');
-    let c = put_hex(out, b, before, b' ');
-    let d = put_hex(out, c, after, b' ');
-    put_hex(out, d, second, b'\n')
+    let mut writer = Writer { out, at };
+    writer.decimal(step as usize, b' ');
+    writer.decimal(caller.0 as usize, b' ');
+    writer.hex(before, b' ');
+    writer.hex(after, b' ');
+    writer.hex(second, b'\n');
+    writer.at
 }
 
 // The end of a run: its steps, and the mode.
@@ -46,9 +46,11 @@ pub fn put_end(out: &mut [u8], at: usize, steps: u32, mode: Mode) -> usize
     ensures laid { Laid out.old at (end_text steps mode) out.new result }
     ensures upper_bound { result ≤ at + END }
 {
-    let a = put_text(out, at, b"end ");
-    let b = put_decimal(out, a, steps as usize, b' ');
-    put_mode(out, b, mode)
+    let mut writer = Writer { out, at };
+    writer.text(b"end ");
+    writer.decimal(steps as usize, b' ');
+    writer.mode(mode);
+    writer.at
 }
 
 // A refusal: its number.
@@ -57,8 +59,10 @@ pub fn put_refused(out: &mut [u8], at: usize, number: u32) -> usize
     ensures laid { Laid out.old at (refused_text number) out.new result }
     ensures upper_bound { result ≤ at + REFUSED }
 {
-    let a = put_text(out, at, b"refused ");
-    put_decimal(out, a, number as usize, b'\n')
+    let mut writer = Writer { out, at };
+    writer.text(b"refused ");
+    writer.decimal(number as usize, b'\n');
+    writer.at
 }
 
 // The refusal of a broken image: the offset.
@@ -67,6 +71,8 @@ pub fn put_broken(out: &mut [u8], at: usize, offset: usize) -> usize
     ensures laid { Laid out.old at (broken_text offset) out.new result }
     ensures upper_bound { result ≤ at + BROKEN }
 {
-    let a = put_text(out, at, b"refused 4 ");
-    put_decimal(out, a, offset, b'\n')
+    let mut writer = Writer { out, at };
+    writer.text(b"refused 4 ");
+    writer.decimal(offset, b'\n');
+    writer.at
 }

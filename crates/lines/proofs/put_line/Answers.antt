@@ -1,63 +1,36 @@
--- Five numbers, each with a space or the line's end behind it: the step takes 11 bytes at most, the caller 4, each word 9.
-use Rattle.std.proofs.Common.{arith}
-use Rattle.lines.proofs.Counting.{decimal_short, decimal_behind, hex8_behind}
-use Rattle.lines.proofs.Written.{line_laid}
+-- Five numbers, each with a space or the line's end behind it: step and caller take 15 bytes at most, each word 9.
+use Rattle.std.proofs.Common.{arith, rules}
+use Rattle.lines.proofs.Counting.{line_short}
+use Rattle.lines.proofs.Written.{line_written}
 use Rattle.lines.proofs.put_line.Goals as goal
 
-pub put_decimal-a-requires : goal.put_decimal-a-requires
-put_decimal-a-requires c = omega (arith, decimal_short c.args.step 9 (omega arith))
+pub decimal-requires : goal.decimal-requires
+decimal-requires c = omega (arith, line_short c.args.step c.args.caller.0 (omega arith) (omega arith))
 
-pub put_decimal-b-requires : goal.put_decimal-b-requires
-put_decimal-b-requires c =
-    omega (
-      arith,
-      decimal_behind c.args.step 9 32 (omega arith) c.put_decimal-a.ensures,
-      decimal_short c.args.caller.0 2 (omega arith),
-    )
+pub decimal-requires-2 : goal.decimal-requires-2
+decimal-requires-2 c = omega (arith, line_short c.args.step c.args.caller.0 (omega arith) (omega arith))
 
-pub put_hex-c-requires : goal.put_hex-c-requires
-put_hex-c-requires c =
-    omega (
-      arith,
-      decimal_behind c.args.step 9 32 (omega arith) c.put_decimal-a.ensures,
-      decimal_behind c.args.caller.0 2 32 (omega arith) c.put_decimal-b.ensures,
-    )
+pub hex-requires : goal.hex-requires
+hex-requires c = omega (arith, line_short c.args.step c.args.caller.0 (omega arith) (omega arith))
 
-pub put_hex-d-requires : goal.put_hex-d-requires
-put_hex-d-requires c =
-    omega (
-      arith,
-      decimal_behind c.args.step 9 32 (omega arith) c.put_decimal-a.ensures,
-      decimal_behind c.args.caller.0 2 32 (omega arith) c.put_decimal-b.ensures,
-      hex8_behind _ _ c.put_hex-c.ensures,
-    )
+pub hex-requires-2 : goal.hex-requires-2
+hex-requires-2 c = omega (arith, line_short c.args.step c.args.caller.0 (omega arith) (omega arith))
 
-pub put_hex-requires : goal.put_hex-requires
-put_hex-requires c =
-    omega (
-      arith,
-      decimal_behind c.args.step 9 32 (omega arith) c.put_decimal-a.ensures,
-      decimal_behind c.args.caller.0 2 32 (omega arith) c.put_decimal-b.ensures,
-      hex8_behind _ _ c.put_hex-c.ensures,
-      hex8_behind _ _ c.put_hex-d.ensures,
-    )
+pub hex-requires-3 : goal.hex-requires-3
+hex-requires-3 c = omega (arith, line_short c.args.step c.args.caller.0 (omega arith) (omega arith))
 
 pub returns-clause-laid : goal.returns-clause-laid
 returns-clause-laid c =
-    line_laid _ _ _ _ _
-    c.put_decimal-a.ensures
-    c.put_decimal-b.ensures
-    c.put_hex-c.ensures
-    c.put_hex-d.ensures
-    c.put_hex.ensures
+    let written =
+    line_written c.args.step c.args.caller c.args.before c.args.after c.args.second
+    c.decimal.ensures.written
+    c.decimal-2.ensures.written
+    c.hex.ensures.written
+    c.hex-2.ensures.written
+    c.hex-3.ensures.written
+    in
+    search rules
 
 pub returns-clause-upper_bound : goal.returns-clause-upper_bound
 returns-clause-upper_bound c =
-    omega (
-      arith,
-      decimal_behind c.args.step 9 32 (omega arith) c.put_decimal-a.ensures,
-      decimal_behind c.args.caller.0 2 32 (omega arith) c.put_decimal-b.ensures,
-      hex8_behind _ _ c.put_hex-c.ensures,
-      hex8_behind _ _ c.put_hex-d.ensures,
-      hex8_behind _ _ c.put_hex.ensures,
-    )
+    omega (arith, line_short c.args.step c.args.caller.0 (omega arith) (omega arith))
