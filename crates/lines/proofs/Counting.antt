@@ -3,7 +3,7 @@ use Prim.Native.Nat.{ℕ, zero, suc, ◌+◌, ◌-◌, ◌*◌, ◌/◌, ◌%◌
 use mathlib.Core.Bool.{Bool, true, false}
 use mathlib.Core.Path.{◌≡◌, refl, sym, ap, ◌∙◌}
 use mathlib.Core.List.{List}
-use native.Mathlib.Nat.{pow-suc, pow-le-pow_right, mod-lt}
+use native.Mathlib.Nat.{pow-suc, pow-le-pow_right}
 use native.Mathlib.Omega.{arith}
 use native.Mathlib.Decide.{dec_lt}
 use native.Mathlib.Numerals.{add-one}
@@ -34,18 +34,12 @@ digit_laid out at b i rest h =
     let place : at + i ≡ at + length (digits b i (rest / b)) = omega arith in
     rw (laid_one out (at + i) (glyph_of (rest % b)) h, place) (laid_back out at (digits b i (rest / b)) _ (omega arith))
 
-pub digit_small : (n b : ℕ) → 0 < b → b ≤ 16 → n % b < 16
-digit_small n b h l = let less : n % b < b = mod-lt n h in omega arith
-
 -- what is still to be laid, over what is there, is the whole
 pub record Spelt (first : List ℕ) (at b count n : ℕ) (out : List ℕ) (i rest : ℕ) : Type 0 where
   pub fits : at + count ≤ length first
   pub so_far : i ≤ count
   pub kept : length out ≡ length first
   pub whole : laid_text out at (digits b i rest) ≡ laid_text first at (digits b count n)
-
-pub spelt_none : (out : List ℕ) (at b count n : ℕ) → at + count ≤ length out → Spelt out at b count n out count n
-spelt_none out at b count n h = record { fits = h; so_far = omega arith; kept = refl; whole = refl }
 
 pub spelt_more : {first : List ℕ} {at b count n : ℕ} {out : List ℕ} {i rest code : ℕ}
     → Spelt first at b count n out i rest

@@ -9,18 +9,13 @@ ghost use Rattle.std.specs.Prelude.{◌≡◌, length};
 use std::io;
 use std::io::{Print, Stdin, Stdout};
 
-// A number of four bytes, the lowest first.
-fn number_of(a: u8, b: u8, c: u8, d: u8) -> usize {
-    (a as usize) + 256 * (b as usize) + 65536 * (c as usize) + 16777216 * (d as usize)
-}
-
-// The next length of the input; one that is too large where the input ends.
-fn next_length(from: Stdin) -> io::Result<usize> {
+// The next length of the input, if there is one: four bytes, the lowest first.
+fn next_length(from: Stdin) -> io::Result<Option<usize>> {
     let mut head = [0u8; 4];
-    if show::read_full(from, &mut head)? != 4 {
-        return Ok(65538);
+    if show::read_full(from, &mut head)? < head.len() {
+        return Ok(None);
     }
-    Ok(number_of(head[0], head[1], head[2], head[3]))
+    Ok(Some(u32::from_le_bytes(head) as usize))
 }
 
 // Room for an image, and for one byte more than it may have.
@@ -37,7 +32,9 @@ fn announce(to: Stdout, number: u64) -> io::Result<()> {
 
 // Reads the next image and shows it: whether there was one.
 fn show_next(from: Stdin, to: Stdout, number: u64) -> io::Result<bool> {
-    let size = next_length(from)?;
+    let Some(size) = next_length(from)? else {
+        return Ok(false);
+    };
     if 65537 < size {
         return Ok(false);
     }
@@ -52,9 +49,10 @@ fn show_next(from: Stdin, to: Stdout, number: u64) -> io::Result<bool> {
 
 // The count is what ends the loop in a proof: no input is so long.
 fn main(rt: HostRuntime) -> io::Result<()> {
-    let mut number: u64 = 1;
-    while number < u64::MAX && show_next(rt.stdin(), rt.stdout(), number)? {
-        number += 1;
+    for number in 1..u64::MAX {
+        if !show_next(rt.stdin(), rt.stdout(), number)? {
+            break;
+        }
     }
     Ok(())
 }
