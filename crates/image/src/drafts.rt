@@ -6,7 +6,7 @@ ghost use Rattle.model.specs.Sound.{counts_in_range};
 ghost use Rattle.image.specs.Drafts.{Ranged, begun, unused, describable, ownable, inside, complete, fits, is_counts, may_stand, with_counts, with_guest, with_owner, with_budget, taken};
 
 use crate::{Content, Draft};
-use model::{Machine, Mailbox, Mode, Owner, PageId, VmId, VmSet};
+use model::{Machine, Mailbox, Mode, PageId, VmId, VmSet};
 
 // Kind 1: 2 to 8 guests, and pages for two mailboxes each up to 64.
 #[tactic(auto, unfolding(model::specs::Sound::counts_in_range, crate::proofs::Opened::joined_tests))]
@@ -65,10 +65,7 @@ impl Draft {
         ensures { result ≡ unused self.now.machine.m self.now.machine.records p }
     {
         p < u16::from(self.machine.m)
-            && parts::same_record(
-                self.machine.records[p as usize],
-                parts::free_row(Owner::Nobody),
-            )
+            && parts::same_record(self.machine.records[p as usize], parts::free_row(None))
     }
 
     // Kind 2: a guest that is not described yet, and two pages for its mailboxes.
