@@ -68,111 +68,23 @@ in_place_read m h d {t} {count} {due} dealt whole p q e f =
     let few : count ≤ length t.pages = rw (whole, q, p) dealt.reached.few in
     f ∙ every_taken (page 0) (λ p. same_record (record_at m.records p) due) _ _ few ∙ rw (e, q, p)
 
--- How a handle is settled, and how each deed does it.
-
-pub settled_by : (m : Machine) (h : Handle) (new t : Transaction) (due : PageRecord) {all : List PageRecord}
-    → all ≡ recorded m.records t due → with_pages m all (set m.transactions h.0 new) ≡ settled m h new t due
-unfolding settled
-settled_by m h new t due e = rw e
-
-module _ (m : Machine) (h : Handle) (d : Deal) {t new : Transaction} {due : PageRecord} {next : Machine} where
-  pub donation_retrieved : donates d.kind ≡ true
-      → t ≡ transaction_at m.transactions h
-      → new ≡ freed
-      → due ≡ owned_row d.receiver
-      → next ≡ settled m h new t due
-      → next ≡ retrieved m h d
-  unfolding retrieved
-  donation_retrieved e there free own settle = rw (settle, own, free, there, e)
-
-  pub other_retrieved : {held : Deal} → donates d.kind ≡ false
-      → t ≡ transaction_at m.transactions h
-      → held ≡ marked d true
-      → new ≡ redealt t held
-      → due ≡ row held
-      → next ≡ settled m h new t due
-      → next ≡ retrieved m h d
-  unfolding retrieved
-  other_retrieved e there mark deal own settle = rw (settle, own, deal, mark, there, e)
-
-  pub relinquished_settled : {left : Deal}
-      → t ≡ transaction_at m.transactions h
-      → left ≡ marked d false
-      → new ≡ redealt t left
-      → due ≡ row left
-      → next ≡ settled m h new t due
-      → next ≡ relinquished m h d
-  unfolding relinquished
-  relinquished_settled there mark deal own settle = rw (settle, own, deal, mark, there)
-
-  pub reclaimed_settled : t ≡ transaction_at m.transactions h
-      → new ≡ freed
-      → due ≡ owned_row d.sender
-      → next ≡ settled m h new t due
-      → next ≡ reclaimed m h d
-  unfolding reclaimed
-  reclaimed_settled there free own settle = rw (settle, own, free, there)
-
--- The chain of tests, way by way.
-
-module _ (m : Machine) (h : Handle) (d : Deal) where
-  -- what the code tests: who may, which mark, each page's row
-  unfoldable pub chain : Bool → Bool → Verdict
-  chain may marked = need may DENIED (need marked DENIED (need (in_place m h d) ABORTED passes))
-
-  pub not_party : (may marked : Bool) → may ≡ false → refused DENIED ≡ chain may marked
-  unfolding chain
-  not_party may marked party = sym (need_fails _ _ party)
-
-  pub wrong_mark : (may marked : Bool) → may ≡ true → marked ≡ false → refused DENIED ≡ chain may marked
-  unfolding chain
-  wrong_mark may marked party mark = sym (need_passes _ _ party ∙ need_fails _ _ mark)
-
-  pub out_of_place : (may marked : Bool) → may ≡ true → marked ≡ true → in_place m h d ≡ false → refused ABORTED ≡ chain may marked
-  unfolding chain
-  out_of_place may marked party mark placed = sym (need_passes _ _ party ∙ need_passes _ _ mark ∙ need_fails _ _ placed)
-
-  pub all_passed : (may marked : Bool) → may ≡ true → marked ≡ true → in_place m h d ≡ true → passes ≡ chain may marked
-  unfolding chain
-  all_passed may marked party mark placed = sym (need_passes _ _ party ∙ need_passes _ _ mark ∙ need_passes _ _ placed)
-
 -- The ways out of a call on a handle: nothing is found, a test fails, all pass.
-
--- the mark must be set, or must not be
-pub must_be_set : (b : Bool) → b ≡ agree b true
-unfolding agree
-must_be_set true = refl
-must_be_set false = refl
-
-pub must_be_clear : (b : Bool) → not b ≡ agree b false
-unfolding agree
-must_be_clear true = refl
-must_be_clear false = refl
 
 module _ (may : Deal → VmId → Bool) (mark : Bool) (deed : Machine → Handle → Deal → Machine) (m : Machine) (memory : List ℕ) where
   pub nothing_found : own_found m ≡ None → state (with_error m INVALID) memory ≡ handle_effect may mark deed (state m memory)
   unfolding handle_effect handle_verdict
   nothing_found found = refusal m memory _ (rw found)
 
-  module _ {h : Handle} {d : Deal} (found : own_found m ≡ Some (h, d)) where
-    -- the model's verdict is the chain's
-    chained : {party marked : Bool} {v : Verdict} → party ≡ may d m.current → marked ≡ agree d.retrieved mark
-        → v ≡ chain m h d party marked → handle_verdict may mark m (own_found m) ≡ v
-    unfolding handle_verdict chain
-    chained p q e = sym (rw (found, ← p, ← q) e)
+  module _ {h : Handle} {d : Deal} {party marked : Bool} (found : own_found m ≡ Some (h, d))
+      (may_it : party ≡ may d m.current) (as_due : marked ≡ agree d.retrieved mark) where
+    -- what is tested, in its order
+    abbrev tests : Verdict
+    tests = need party DENIED (need marked DENIED (need (in_place m h d) ABORTED passes))
 
-    doing : applied deed m (own_found m) ≡ deed m h d
-    unfolding applied
-    doing = rw found
+    pub test_failed : {code : ℕ} → refused code ≡ tests → state (with_error m code) memory ≡ handle_effect may mark deed (state m memory)
+    unfolding handle_effect handle_verdict
+    test_failed e = refusal m memory _ (sym (rw (found, ← may_it, ← as_due) e))
 
-    pub test_failed : {party marked : Bool} {code : ℕ} → party ≡ may d m.current → marked ≡ agree d.retrieved mark
-        → refused code ≡ chain m h d party marked
-        → state (with_error m code) memory ≡ handle_effect may mark deed (state m memory)
-    unfolding handle_effect
-    test_failed p q e = refusal m memory _ (chained p q e)
-
-    pub tests_passed : {party marked : Bool} → party ≡ may d m.current → marked ≡ agree d.retrieved mark
-        → passes ≡ chain m h d party marked
-        → state (succeeded (deed m h d)) memory ≡ handle_effect may mark deed (state m memory)
-    unfolding handle_effect
-    tests_passed p q e = rw (← doing) (success (state m memory) (chained p q e))
+    pub tests_passed : passes ≡ tests → state (succeeded (deed m h d)) memory ≡ handle_effect may mark deed (state m memory)
+    unfolding handle_effect handle_verdict applied
+    tests_passed e = rw found (success (state m memory) (sym (rw (← may_it, ← as_due) e)))

@@ -1,3 +1,2 @@
 -- What the functions behind the calls ask, besides the model's definitions.
 pub mod Deeds
-pub mod Tested

@@ -2,13 +2,14 @@
 // registers.
 
 ghost use Rattle.std.specs.Prelude.{◌≡◌, ◌<◌};
-ghost use Rattle.model.specs.Constants.{HANDLES};
+ghost use Rattle.model.specs.Constants.{GUESTS, HANDLES};
 ghost use Rattle.model.specs.State.{transaction_at};
+ghost use Rattle.model.specs.Row.{owned_row, row};
 ghost use Rattle.model.specs.Deeds.{settled, freed, marked, redealt, retrieved, relinquished, reclaimed};
 ghost use Rattle.parts.specs.Reached.{Reached};
 ghost use Rattle.handles.specs.Deeds.{Dealt};
 
-use model::{Deal, Handle, Life, Machine, PageId, PageRecord, Transaction};
+use model::{Deal, Handle, Machine, PageId, PageRecord, Transaction, VmId};
 use parts::pages;
 
 // The transaction in a handle's place.
@@ -17,14 +18,13 @@ pub fn transaction_at(machine: Machine, h: Handle) -> Transaction
     requires { h.0 < HANDLES }
     ensures { result ≡ transaction_at machine.transactions h }
 {
-    let transactions = machine.transactions;
-    let at = h.0 as usize;
-    transactions[at]
+    machine.transactions[h.0 as usize]
 }
 
 // Handle h's place holds the transaction new, and the pages of t get the record due.
+#[tactic(auto, unfolding(model::specs::Deeds::settled))]
 pub fn settled(
-    machine: Machine,
+    mut machine: Machine,
     h: Handle,
     new: Transaction,
     t: Transaction,
@@ -33,75 +33,64 @@ pub fn settled(
     requires { (h.0 < HANDLES) × Reached t }
     ensures { result ≡ settled machine h new t due }
 {
-    let mut next = machine;
-    next.transactions[h.0 as usize] = new;
-    pages::recorded(&mut next.records, t, due);
-    next
+    machine.transactions[h.0 as usize] = new;
+    pages::recorded(&mut machine.records, t, due);
+    machine
 }
 
-// A handle that is done with.
-fn freed() -> Transaction
-    ensures { result ≡ freed }
+// The pages are guest g's own, and the handle is done with.
+fn owned(machine: Machine, h: Handle, d: Deal, g: VmId) -> Machine
+    requires { Dealt machine h d × (g.0 < GUESTS) }
+    ensures { result ≡ settled machine h freed (transaction_at machine.transactions h) (owned_row g) }
 {
-    Transaction {
-        life: Life::Free,
+    let free = Transaction {
+        deal: None,
         pages: [PageId(0); 8],
-    }
+    };
+    let t = transaction_at(machine, h);
+    settled(machine, h, free, t, parts::owned_row(g))
 }
 
-// The same deal with the retrieved mark as given.
-#[tactic(auto, unfolding(model::specs::Deeds::marked))]
-fn marked(d: Deal, retrieved: bool) -> Deal
-    ensures { result ≡ marked d retrieved }
+// The same deal over the same pages, with the retrieved mark as given.
+#[tactic(auto, unfolding(model::specs::Deeds::marked, model::specs::Deeds::redealt))]
+fn remarked(machine: Machine, h: Handle, d: Deal, retrieved: bool) -> Machine
+    requires { Dealt machine h d }
+    ensures { let t = transaction_at machine.transactions h in
+        result ≡ settled machine h (redealt t (marked d retrieved)) t (row (marked d retrieved)) }
 {
-    let mut next = d;
-    next.retrieved = retrieved;
-    next
-}
-
-// The same pages under another deal.
-#[tactic(auto, unfolding(model::specs::Deeds::redealt))]
-fn redealt(t: Transaction, d: Deal) -> Transaction
-    ensures { result ≡ redealt t d }
-{
-    let held = t.pages;
-    Transaction {
-        life: Life::Live(d),
-        pages: held,
-    }
+    let d = Deal { retrieved, ..d };
+    let t = transaction_at(machine, h);
+    let new = Transaction { deal: Some(d), ..t };
+    settled(machine, h, new, t, parts::row(d))
 }
 
 // Retrieving: the pages of a donation become the receiver's own, and its handle is done with; others are marked.
-#[tactic(auto, unfolding(model::specs::Deeds::marked))]
+#[tactic(auto, unfolding(model::specs::Deeds::retrieved))]
 pub fn retrieved(machine: Machine, h: Handle, d: Deal) -> Machine
     requires { Dealt machine h d }
     ensures { result ≡ retrieved machine h d }
 {
-    let t = transaction_at(machine, h);
-    let kind = d.kind;
-    if parts::donates(kind) {
-        return settled(machine, h, freed(), t, parts::owned_row(d.receiver));
+    if parts::donates(d.kind) {
+        owned(machine, h, d, d.receiver)
+    } else {
+        remarked(machine, h, d, true)
     }
-    let held = marked(d, true);
-    settled(machine, h, redealt(t, held), t, parts::row(held))
 }
 
 // Relinquishing: the mark goes.
-#[tactic(auto, unfolding(model::specs::Deeds::marked))]
+#[tactic(auto, unfolding(model::specs::Deeds::relinquished))]
 pub fn relinquished(machine: Machine, h: Handle, d: Deal) -> Machine
     requires { Dealt machine h d }
     ensures { result ≡ relinquished machine h d }
 {
-    let t = transaction_at(machine, h);
-    let left = marked(d, false);
-    settled(machine, h, redealt(t, left), t, parts::row(left))
+    remarked(machine, h, d, false)
 }
 
 // Reclaiming: the pages are the sender's own again, and the handle is done with.
+#[tactic(auto, unfolding(model::specs::Deeds::reclaimed))]
 pub fn reclaimed(machine: Machine, h: Handle, d: Deal) -> Machine
     requires { Dealt machine h d }
     ensures { result ≡ reclaimed machine h d }
 {
-    let t = transaction_at(machine, h);
-    settled(machine, h, freed(), t, parts::owned_row(d.sender))
+    owned(machine, h, d, d.sender)
 }

@@ -4,44 +4,29 @@ ghost use Rattle.std.specs.Prelude.{◌≡◌, ◌<◌};
 ghost use Rattle.model.specs.Constants.{GUESTS, DENIED, ABORTED};
 ghost use Rattle.model.specs.Reply.{passes, need};
 ghost use Rattle.model.specs.HandleCall.{lookup, own_found, in_place};
+ghost use Rattle.parts.specs.Refusal.{verdict_of};
 ghost use Rattle.handles.specs.Deeds.{Dealt};
-ghost use Rattle.handles.specs.Tested.{verdict_of};
 
 use crate::deeds;
-use model::{Deal, Found, Handle, Life, Machine, Transaction};
-use parts::{codes, pages, reply};
-
-// How the tests end: they pass, or the first that fails gives its code.
-#[derive(Clone, Copy)]
-pub enum Verdict {
-    Passes,
-    Refused(u32),
-}
+use model::{Deal, Handle, Machine, Transaction};
+use parts::{Refusal, pages, reply};
 
 // What a handle word finds; a word above 15 finds nothing.
-fn lookup(transactions: [Transaction; 16], w: u32) -> Found
-    ensures { result ≡ lookup transactions w }
+#[tactic(auto, unfolding(model::specs::HandleCall::lookup, model::specs::HandleCall::found_in, model::specs::State::transaction_at))]
+fn lookup(transactions: &[Transaction; 16], w: u32) -> Option<(Handle, Deal)>
+    ensures { result ≡ lookup transactions.now w }
 {
-    if 16 <= w {
-        return Found::Nothing;
-    }
-    let at = w as usize;
-    let t = transactions[at];
-    let life = t.life;
-    match life {
-        Life::Free => Found::Nothing,
-        Life::Live(d) => Found::Live(Handle(w as u8), d),
-    }
+    let t = transactions.get(w as usize)?;
+    t.deal.map(|d| (Handle(w as u8), d))
 }
 
 // What the handle word in the caller's R1 finds.
 #[tactic(auto, unfolding(model::specs::HandleCall::own_found))]
-pub fn own_found(machine: Machine) -> Found
+pub fn own_found(machine: Machine) -> Option<(Handle, Deal)>
     requires { machine.current.0 < GUESTS }
     ensures { result ≡ own_found machine }
 {
-    let transactions = machine.transactions;
-    lookup(transactions, reply::argument(machine, 1))
+    lookup(&machine.transactions, reply::argument(machine, 1))
 }
 
 // Every page of the transaction has its row.
@@ -57,18 +42,19 @@ fn in_place(machine: Machine, h: Handle, d: Deal) -> bool
 
 // The tests behind the look-up, in their order: the caller is the party that may, the retrieved mark is as it must be, and
 // each page has its row.
-pub fn tested(machine: Machine, h: Handle, d: Deal, may: bool, marked: bool) -> Verdict
+#[tactic(auto, unfolding(parts::specs::Refusal::verdict_of, parts::specs::Refusal::code_of))]
+pub fn tested(machine: Machine, h: Handle, d: Deal, may: bool, marked: bool) -> Result<(), Refusal>
     requires { Dealt machine h d }
     ensures { verdict_of result ≡ need may DENIED (need marked DENIED (need (in_place machine h d) ABORTED passes)) }
 {
     if !may {
-        return Verdict::Refused(codes::DENIED);
+        return Err(Refusal::Denied);
     }
     if !marked {
-        return Verdict::Refused(codes::DENIED);
+        return Err(Refusal::Denied);
     }
     if !in_place(machine, h, d) {
-        return Verdict::Refused(codes::ABORTED);
+        return Err(Refusal::Aborted);
     }
-    Verdict::Passes
+    Ok(())
 }

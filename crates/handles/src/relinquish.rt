@@ -1,27 +1,47 @@
 // The call Relinquish: the receiver, once it has retrieved.
 
-ghost use Rattle.std.specs.Prelude.{◌≡◌, true, List, ℕ};
+ghost use Rattle.std.specs.Prelude.{◌≡◌, true, List, ℕ, refl};
 ghost use Rattle.model.specs.State.{state};
 ghost use Rattle.model.specs.Sound.{sound};
+ghost use Rattle.model.specs.Row.{receives};
+ghost use Rattle.model.specs.Deeds.{settled, relinquished};
 ghost use Rattle.model.specs.Relinquish.{relinquish_effect};
 
-use crate::lookup::Verdict;
-use crate::{deeds, lookup};
-use model::{Found, Machine};
-use parts::{codes, reply};
+use crate::deeds;
+use crate::handle_call::{self, HandleCall};
+use model::{Deal, Handle, Machine, VmId};
 
-// The tests in their order; then the mark goes.
+// How Relinquish differs from the other calls on a handle.
+struct Relinquishing;
+
+impl HandleCall for Relinquishing {
+    ghost may = { receives };
+
+    ghost mark = { true };
+
+    ghost deed = { relinquished };
+
+    ghost goes_on = { λ m h d. unfold relinquished in unfold settled in refl };
+
+    fn may(d: Deal, g: VmId) -> bool {
+        parts::receives(d, g)
+    }
+
+    #[tactic(auto, unfolding(model::specs::Tests::agree))]
+    fn marked(d: Deal) -> bool {
+        d.retrieved
+    }
+
+    fn deed(machine: Machine, h: Handle, d: Deal) -> Machine {
+        deeds::relinquished(machine, h, d)
+    }
+}
+
+// The mark goes.
+#[tactic(auto, unfolding(model::specs::Relinquish::relinquish_effect))]
 pub fn relinquish(machine: Machine) -> Machine
     requires { sound machine ≡ true }
     ensures { (memory : List ℕ) → state result memory ≡ relinquish_effect (state machine memory) }
 {
-    let Found::Live(h, d) = lookup::own_found(machine) else {
-        return reply::with_error(machine, codes::INVALID);
-    };
-    let caller = machine.current;
-    let verdict = lookup::tested(machine, h, d, parts::receives(d, caller), d.retrieved);
-    match verdict {
-        Verdict::Refused(code) => reply::with_error(machine, code),
-        Verdict::Passes => reply::succeeded(deeds::relinquished(machine, h, d)),
-    }
+    handle_call::on_handle::<Relinquishing>(machine)
 }
