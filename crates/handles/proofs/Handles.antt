@@ -1,44 +1,25 @@
--- The laws of the calls on a handle: what a handle word finds; what the deeds ask, from soundness; how each deed settles its
--- handle; and the ways out of the one chain of tests, over who may, which mark and which deed.
-use Rattle.std.specs.Prelude.{Option, None, Some}
-use Prim.Native.Nat.{ℕ, ◌≤◌, ◌<◌}
-use mathlib.Core.Path.{◌≡◌, refl, sym, ◌∙◌}
-use mathlib.Core.Bool.{Bool, true, false, not}
+-- The laws of the calls on a handle: what is found on a sound machine the deeds take; and the ways out of the one chain of tests,
+-- over who may, which mark and which deed.
+use Rattle.std.specs.Prelude.{None, Some}
+use Prim.Native.Nat.{ℕ}
+use mathlib.Core.Path.{◌≡◌, sym}
+use mathlib.Core.Bool.{Bool, true}
 use mathlib.Core.List.{List}
 use native.Mathlib.Omega.{arith}
-use lib.ListN.{length, take, set}
-use borrow.Author.Tests.{lt-ltb, le-ltb}
 use Rattle.model.specs.declared.VmId.{VmId}
 use Rattle.model.specs.declared.Handle.{Handle}
-use Rattle.model.specs.declared.PageRecord.{PageRecord}
 use Rattle.model.specs.declared.Deal.{Deal}
-use Rattle.model.specs.declared.Transaction.{Transaction}
 use Rattle.model.specs.declared.Machine.{Machine}
-use Rattle.model.specs.Constants.{HANDLES, PLACES, INVALID, DENIED, ABORTED}
+use Rattle.model.specs.Constants.{INVALID, DENIED, ABORTED}
 use Rattle.model.specs.Tests.{agree}
-use Rattle.model.specs.State.{state, page, handle, record_at, transaction_at, page_at, count_in, count_of, argument, with_pages}
-use Rattle.model.specs.Row.{donates, owned_row, row, same_record}
-use Rattle.model.specs.Deeds.{settled, freed, marked, redealt, retrieved, relinquished, reclaimed, recorded}
-use Rattle.model.specs.HandleCall.{found_in, lookup, in_place, handle_verdict, applied, own_found, handle_effect}
+use Rattle.model.specs.State.{state, count_in, count_of, argument}
+use Rattle.model.specs.HandleCall.{in_place, handle_verdict, applied, own_found, handle_effect}
 use Rattle.model.specs.Reply.{Verdict, passes, refused, need, with_error, succeeded}
 use Rattle.model.specs.Sound.{sound}
 use Rattle.model.proofs.Sound.{sound_holds}
 use Rattle.model.proofs.Calls.{lookup_live}
-use Rattle.std.specs.List.{list_all}
+use Rattle.parts.proofs.Answers.{refusal, success}
 use Rattle.handles.specs.Deeds.{Dealt}
-use Rattle.parts.proofs.Loops.{every_taken}
-use Rattle.parts.proofs.Answers.{need_fails, need_passes, refusal, success}
-
--- Looking up.
-
-pub above_finds_nothing : (transactions : List Transaction) (w : ℕ) → HANDLES ≤ w → None ≡ lookup transactions w
-unfolding lookup
-above_finds_nothing transactions w h = rw (le-ltb w HANDLES h)
-
-pub handle_finds : (transactions : List Transaction) (w : ℕ) {there : Option Deal} → w < HANDLES
-    → (transaction_at transactions (handle w)).deal ≡ there → found_in (handle w) there ≡ lookup transactions w
-unfolding lookup
-handle_finds transactions w h e = rw (lt-ltb w HANDLES h, e)
 
 -- What the caller of a sound machine finds, the deeds take.
 pub found_dealt : (m : Machine) (h : Handle) (d : Deal) → sound m ≡ true → own_found m ≡ Some (h, d) → Dealt m h d
@@ -58,15 +39,6 @@ found_dealt m h d e f =
       sender = omega arith;
       receiver = omega arith;
     })
-
--- The pages that are looked at are those in the handle's place.
-pub in_place_read : (m : Machine) (h : Handle) (d : Deal) {t : Transaction} {count : ℕ} {due : PageRecord} {r : Bool}
-    → Dealt m h d → length t.pages ≡ PLACES → t ≡ transaction_at m.transactions h → count ≡ count_of t → due ≡ row d
-    → r ≡ list_all (λ p. same_record (record_at m.records p) due) (take count t.pages) → r ≡ in_place m h d
-unfolding in_place page_at
-in_place_read m h d {t} {count} {due} dealt whole p q e f =
-    let few : count ≤ length t.pages = rw (whole, q, p) dealt.reached.few in
-    f ∙ every_taken (page 0) (λ p. same_record (record_at m.records p) due) _ _ few ∙ rw (e, q, p)
 
 -- The ways out of a call on a handle: nothing is found, a test fails, all pass.
 

@@ -39,8 +39,8 @@ pub fn settled(
 }
 
 // The pages are guest g's own, and the handle is done with.
-fn owned(machine: Machine, h: Handle, d: Deal, g: VmId) -> Machine
-    requires { Dealt machine h d × (g.0 < GUESTS) }
+fn owned_by(machine: Machine, h: Handle, g: VmId) -> Machine
+    requires { (h.0 < HANDLES) × Reached (transaction_at machine.transactions h) × (g.0 < GUESTS) }
     ensures { result ≡ settled machine h freed (transaction_at machine.transactions h) (owned_row g) }
 {
     let free = Transaction {
@@ -53,7 +53,7 @@ fn owned(machine: Machine, h: Handle, d: Deal, g: VmId) -> Machine
 
 // The same deal over the same pages, with the retrieved mark as given.
 #[tactic(auto, unfolding(model::specs::Deeds::marked, model::specs::Deeds::redealt))]
-fn remarked(machine: Machine, h: Handle, d: Deal, retrieved: bool) -> Machine
+fn with_mark(machine: Machine, h: Handle, d: Deal, retrieved: bool) -> Machine
     requires { Dealt machine h d }
     ensures { let t = transaction_at machine.transactions h in
         result ≡ settled machine h (redealt t (marked d retrieved)) t (row (marked d retrieved)) }
@@ -71,9 +71,9 @@ pub fn retrieved(machine: Machine, h: Handle, d: Deal) -> Machine
     ensures { result ≡ retrieved machine h d }
 {
     if parts::donates(d.kind) {
-        owned(machine, h, d, d.receiver)
+        owned_by(machine, h, d.receiver)
     } else {
-        remarked(machine, h, d, true)
+        with_mark(machine, h, d, true)
     }
 }
 
@@ -83,7 +83,7 @@ pub fn relinquished(machine: Machine, h: Handle, d: Deal) -> Machine
     requires { Dealt machine h d }
     ensures { result ≡ relinquished machine h d }
 {
-    remarked(machine, h, d, false)
+    with_mark(machine, h, d, false)
 }
 
 // Reclaiming: the pages are the sender's own again, and the handle is done with.
@@ -92,5 +92,5 @@ pub fn reclaimed(machine: Machine, h: Handle, d: Deal) -> Machine
     requires { Dealt machine h d }
     ensures { result ≡ reclaimed machine h d }
 {
-    owned(machine, h, d, d.sender)
+    owned_by(machine, h, d.sender)
 }

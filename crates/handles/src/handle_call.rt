@@ -34,12 +34,12 @@ pub trait HandleCall {
         requires { Dealt machine h d }
         ensures { result ≡ deed machine h d };
 
-    // The caller goes on, so that it can be answered.
-    ghost goes_on: { (m : Machine) (h : Handle) (d : Deal) → (deed m h d).current ≡ m.current };
+    // The caller stays the current guest, so that it can be answered.
+    ghost keeps_caller: { (m : Machine) (h : Handle) (d : Deal) → (deed m h d).current ≡ m.current };
 }
 
 // The look-up, the tests in their order, and then the deed.
-#[tactic(auto, using(parts::proofs::Answers::caller_below, crate::proofs::Handles::found_dealt))]
+#[tactic(auto, using(parts::proofs::Answers::caller_below))]
 pub fn on_handle<C: HandleCall>(machine: Machine) -> Machine
     requires { sound machine ≡ true }
     ensures { (memory : List ℕ) → state result memory ≡ handle_effect C.may C.mark C.deed (state machine memory) }

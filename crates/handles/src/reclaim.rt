@@ -21,7 +21,7 @@ impl HandleCall for Reclaiming {
 
     ghost deed = { reclaimed };
 
-    ghost goes_on = { λ m h d. unfold reclaimed in unfold settled in refl };
+    ghost keeps_caller = { λ m h d. unfold reclaimed in unfold settled in refl };
 
     fn may(d: Deal, g: VmId) -> bool {
         parts::sends(d, g)

@@ -21,7 +21,7 @@ impl HandleCall for Retrieving {
 
     ghost deed = { retrieved };
 
-    ghost goes_on = { λ m h d. unfold retrieved in unfold settled in refl };
+    ghost keeps_caller = { λ m h d. unfold retrieved in unfold settled in refl };
 
     fn may(d: Deal, g: VmId) -> bool {
         parts::receives(d, g)

@@ -1,8 +1,14 @@
 -- `handles::handle_call::on_handle` meets its contract: nothing is found, a test fails, or all pass.
 use Rattle.std.proofs.Common.{sym, ◌∙◌}
 use Rattle.parts.specs.Refusal.{code_of, verdict_of}
-use Rattle.handles.proofs.Handles.{nothing_found, test_failed, tests_passed}
+use Rattle.handles.proofs.Handles.{found_dealt, nothing_found, test_failed, tests_passed}
 use Rattle.handles.proofs.handle_call.on_handle.Goals as goal
+
+pub tested-requires : goal.tested-requires
+tested-requires g c = found_dealt _ _ _ c.requires (sym c.own_found.ensures ∙ c.in-Some.is)
+
+pub deed-requires : goal.deed-requires
+deed-requires g c = found_dealt _ _ _ c.requires (sym c.own_found.ensures ∙ c.in-Some.is)
 
 pub returns-in_default : goal.returns-in_default
 unfolding code_of

@@ -1,8 +1,13 @@
 -- `handles::lookup::in_place` meets its contract: it is the definition.
-use Rattle.std.proofs.Common.{arith}
-use Rattle.handles.proofs.Handles.{in_place_read}
+use Rattle.std.proofs.Common.{◌≤◌, length, rules, ◌∙◌}
+use Rattle.model.specs.HandleCall.{in_place}
+use Rattle.model.specs.State.{page, page_at}
+use Rattle.parts.proofs.Loops.{every_taken}
 use Rattle.handles.proofs.lookup.in_place.Goals as goal
 
 pub returns : goal.returns
+unfolding in_place page_at
 returns c =
-    in_place_read _ _ _ c.requires (omega arith) c.transaction_at-t.ensures c.count_of.ensures c.row.ensures c.all_have.ensures
+    let t = c.transaction_at-t.result in
+    let few : c.count_of.result ≤ length t.pages = search rules in
+    c.all_have.ensures ∙ every_taken (page 0) _ t.pages _ few ∙ rw (c.row.ensures, c.count_of.ensures, c.transaction_at-t.ensures)
