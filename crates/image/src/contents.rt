@@ -3,7 +3,7 @@
 ghost use Rattle.std.specs.Prelude.{◌≡◌, ◌+◌, ◌≤◌, length};
 ghost use Rattle.image.specs.Contents.{has_form, has_words, described, content_of};
 
-use crate::{Content, Record, bytes};
+use crate::{BUDGET, COUNTS, Content, DESCRIBED, OWNED, Record, WORDS, bytes};
 
 impl Record {
     // Whether the record is of this kind and its payload of this size.
@@ -19,7 +19,7 @@ impl Record {
     fn has_words(self) -> bool
         ensures { result ≡ has_words self }
     {
-        self.kind == 4 && 8 <= self.size && self.size % 4 == 0
+        self.kind == WORDS && 8 <= self.size && self.size % 4 == 0
     }
 }
 
@@ -43,16 +43,16 @@ pub fn content_of(bytes: &[u8], whole: Record) -> Option<Content>
     ensures { result ≡ content_of bytes.now whole }
 {
     let at = whole.payload;
-    if whole.has_form(1, 4) {
+    if whole.has_form(COUNTS, 4) {
         return Some(Content::Counts {
             n: bytes::number(bytes, at),
             m: bytes::number(bytes, at + 2),
         });
     }
-    if whole.has_form(2, 10) {
+    if whole.has_form(DESCRIBED, 10) {
         return Some(described_at(bytes, at));
     }
-    if whole.has_form(3, 4) {
+    if whole.has_form(OWNED, 4) {
         return Some(Content::Owned {
             page: bytes::number(bytes, at),
             owner: bytes::number(bytes, at + 2),
@@ -64,7 +64,7 @@ pub fn content_of(bytes: &[u8], whole: Record) -> Option<Content>
             count: whole.size / 4 - 1,
         });
     }
-    if whole.has_form(5, 4) {
+    if whole.has_form(BUDGET, 4) {
         return Some(Content::Budget {
             steps: bytes::word(bytes, at),
         });

@@ -23,6 +23,17 @@ use model::{
     Answer, Loaded, Machine, Mailbox, Mode, PageId, PageRecord, Registers, Transaction, VmId, VmSet,
 };
 
+// The kinds of an image's records.
+const COUNTS: u16 = 1;
+
+const DESCRIBED: u16 = 2;
+
+const OWNED: u16 = 3;
+
+const WORDS: u16 = 4;
+
+const BUDGET: u16 = 5;
+
 // A whole record: its kind, and where its payload begins and how many bytes that has.
 #[derive(Clone, Copy)]
 pub struct Record {

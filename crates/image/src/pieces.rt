@@ -3,7 +3,7 @@
 ghost use Rattle.std.specs.Prelude.{◌≡◌, ◌≤◌, length};
 ghost use Rattle.image.specs.Pieces.{image_kinds, cut};
 
-use crate::{Record, bytes};
+use crate::{BUDGET, COUNTS, DESCRIBED, OWNED, Record, WORDS, bytes};
 
 // The record at an offset, if it is whole and of one of the kinds.
 #[tactic(auto, unfolding(crate::specs::Pieces::cut, crate::specs::Pieces::record_from, crate::specs::Pieces::end_of, crate::proofs::Opened::joined_tests))]
@@ -35,5 +35,5 @@ pub fn cut_image(bytes: &[u8], at: usize) -> Option<Record>
     requires { at ≤ length bytes.now }
     ensures { result ≡ cut image_kinds bytes.now at }
 {
-    cut(&[1, 2, 3, 4, 5], bytes, at)
+    cut(&[COUNTS, DESCRIBED, OWNED, WORDS, BUDGET], bytes, at)
 }
