@@ -1,5 +1,6 @@
 -- Each arm does what the instruction of its code does, and the last arm is left with the codes that mean halt.
 use Rattle.std.proofs.Common.{ℕ, arith, refl}
+use Rattle.isa.specs.declared.Instruction.TheVariants.{Movi, Movt, Mov, Add, Sub, Addi}
 use Rattle.isa.specs.Opcodes.{opcodes, opcode_at}
 use Rattle.model.specs.State.{plus}
 use Rattle.model.specs.Execute.{perform, topped, minus}
@@ -9,17 +10,17 @@ use Rattle.exec.proofs.instruction.perform.Goals as goal
 
 pub returns-in-1 : goal.returns-in-1
 unfolding perform opcode_at opcodes
-returns-in-1 c = rw c.in-1.is (gets_done _ _ _ _ _ refl refl c.gets.ensures)
+returns-in-1 c = rw c.in-1.is (gets_done _ c.args.file.now _ (Movi c.args.f.d c.args.f.k) _ refl refl c.gets.ensures)
 
 pub returns-in-2 : goal.returns-in-2
 unfolding perform opcode_at opcodes
 returns-in-2 c =
     let read = one_read (λ (a : ℕ). topped a c.args.f.k) c.topped.ensures c.get.ensures in
-    rw c.in-2.is (gets_done _ _ _ _ _ refl read c.gets-in-2.ensures)
+    rw c.in-2.is (gets_done _ c.args.file.now _ (Movt c.args.f.d c.args.f.k) _ refl read c.gets-in-2.ensures)
 
 pub returns-in-3 : goal.returns-in-3
 unfolding perform opcode_at opcodes
-returns-in-3 c = rw c.in-3.is (gets_done _ _ _ _ _ refl c.get-in-3.ensures c.gets-in-3.ensures)
+returns-in-3 c = rw c.in-3.is (gets_done _ c.args.file.now _ (Mov c.args.f.d c.args.f.s) _ refl c.get-in-3.ensures c.gets-in-3.ensures)
 
 pub returns-in-4 : goal.returns-in-4
 unfolding opcode_at opcodes
@@ -33,19 +34,19 @@ pub returns-in-6 : goal.returns-in-6
 unfolding perform opcode_at opcodes
 returns-in-6 c =
     let read = two_read plus c.plus.ensures c.get-in-6.ensures c.get-in-6-2.ensures in
-    rw c.in-6.is (gets_done _ _ _ _ _ refl read c.gets-in-6.ensures)
+    rw c.in-6.is (gets_done _ c.args.file.now _ (Add c.args.f.d c.args.f.s) _ refl read c.gets-in-6.ensures)
 
 pub returns-in-7 : goal.returns-in-7
 unfolding perform opcode_at opcodes
 returns-in-7 c =
     let read = two_read minus c.minus.ensures c.get-in-7.ensures c.get-in-7-2.ensures in
-    rw c.in-7.is (gets_done _ _ _ _ _ refl read c.gets-in-7.ensures)
+    rw c.in-7.is (gets_done _ c.args.file.now _ (Sub c.args.f.d c.args.f.s) _ refl read c.gets-in-7.ensures)
 
 pub returns-in-8 : goal.returns-in-8
 unfolding perform opcode_at opcodes
 returns-in-8 c =
     let read = one_read (λ (a : ℕ). plus a c.args.f.k) c.plus-in-8.ensures c.get-in-8.ensures in
-    rw c.in-8.is (gets_done _ _ _ _ _ refl read c.gets-in-8.ensures)
+    rw c.in-8.is (gets_done _ c.args.file.now _ (Addi c.args.f.d c.args.f.k) _ refl read c.gets-in-8.ensures)
 
 pub returns-in-9 : goal.returns-in-9
 unfolding opcode_at opcodes
