@@ -8,7 +8,7 @@ pub fn taken(words: &[u32]) -> [u32; 1024]
     requires { length words.now ≤ PAGE }
     ensures { take (length words.now) result ≡ words.now }
 {
-    let mut copy = [0u32; 1024];
+    let mut copy = [0; 1024];
     copy[..words.len()].copy_from_slice(words);
     copy
 }

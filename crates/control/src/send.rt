@@ -1,54 +1,65 @@
 // The call Send: words of the caller's TX page go to another guest's RX page.
 
-ghost use Rattle.std.specs.Prelude.{◌≡◌, true, ◌+◌, ◌*◌, ◌≤◌, ◌<◌, length, drop};
+ghost use Rattle.std.specs.Prelude.{◌≡◌, true, ◌+◌, ◌*◌, ◌≤◌, ◌<◌, length, drop, IfOk};
 ghost use Rattle.std.proofs.Math.Seq.{paste};
 ghost use Rattle.model.specs.Constants.{PAGE, GUESTS};
 ghost use Rattle.model.specs.State.{state};
 ghost use Rattle.model.specs.Memory.{base_of};
-ghost use Rattle.model.specs.Reply.{succeeded};
 ghost use Rattle.model.specs.Sound.{sound};
-ghost use Rattle.model.specs.Send.{delivered_to, notified, send_effect};
+ghost use Rattle.model.specs.Send.{send_to, send_length, send_verdict, delivered_to, notified, send_effect};
+ghost use Rattle.parts.specs.Refusal.{verdict_of};
 
 use crate::copy;
-use model::{Inbox, Machine, PageId, VmId};
-use parts::numbers::SomeVm;
-use parts::{codes, inboxes, numbers, registers, reply};
+use model::{Machine, Message, PageId, VmId};
+use parts::{Refusal, codes, inboxes, numbers, registers, reply};
+
+// To whom, and how many words, if the tests pass, in their order: another guest, a page at most, and an empty inbox.
+#[tactic(auto, using(parts::proofs::Answers::caller_below, parts::proofs::Named::no_vm, crate::proofs::Control::guests_few, parts::proofs::Named::vm_found, crate::proofs::Control::named_below), unfolding(crate::proofs::Control::answering, isa::proofs::Tests::joined, model::specs::Reply::is_other, model::specs::Send::send_length, model::specs::Send::send_to, model::specs::Send::send_verdict))]
+fn addressed(machine: Machine) -> Result<(VmId, u32), Refusal>
+    requires { sound machine ≡ true }
+    ensures verdict { verdict_of result ≡ send_verdict machine }
+    ensures named { IfOk result (λ to. (to.0 ≡ send_to machine) × (to.1 ≡ send_length machine)) }
+    ensures within { IfOk result (λ to. (to.0.0 < machine.n) × (to.1 ≤ PAGE)) }
+{
+    let receiver = numbers::vm_of(reply::argument(machine, 1), machine.n).ok_or(Refusal::Invalid)?;
+    if receiver == machine.current {
+        return Err(Refusal::Invalid);
+    }
+    let words = reply::argument(machine, 2);
+    if !(1..=1024).contains(&words) {
+        return Err(Refusal::Invalid);
+    }
+    let busy = inboxes::inbox_at(machine.inboxes, receiver).is_some();
+    if busy {
+        return Err(Refusal::Busy);
+    }
+    Ok((receiver, words))
+}
 
 // The receiver's inbox says from whom, and how long.
 fn delivered(machine: Machine, receiver: VmId, words: u32) -> Machine
     requires { receiver.0 < GUESTS }
     ensures { result ≡ delivered_to machine receiver words }
 {
-    let slots = machine.inboxes;
-    let caller = machine.current;
-    let filled = inboxes::with_inbox(
-        slots,
-        receiver,
-        Inbox::Full {
-            length: words,
-            sender: caller,
-        },
-    );
-    let mut next = machine;
-    next.inboxes = filled;
-    next
+    let message = Message {
+        length: words,
+        sender: machine.current,
+    };
+    let inboxes = inboxes::with_inbox(machine.inboxes, receiver, Some(message));
+    Machine { inboxes, ..machine }
 }
 
 // Guest 0 is current. If a secondary called, it learns of the message, from whom and for whom.
-#[tactic(auto, unfolding(model::specs::Send::notified))]
+#[tactic(auto, unfolding(model::specs::Reply::handed_over, model::specs::Reply::told, model::specs::Reply::woken, model::specs::Send::notified))]
 fn notified(machine: Machine, receiver: VmId) -> Machine
     ensures { result ≡ notified machine receiver }
 {
-    let caller = machine.current;
-    if parts::is_primary(caller) {
-        return machine;
-    }
     let told = reply::handed_over(machine, codes::SEND);
-    let files = told.registers;
-    let all = registers::written(files, VmId(0), 2, receiver.0 as u32);
-    let mut next = told;
-    next.registers = all;
-    next
+    if parts::is_primary(machine.current) {
+        return told;
+    }
+    let registers = registers::written(told.registers, VmId(0), 2, receiver.0 as u32);
+    Machine { registers, ..told }
 }
 
 // The first words of the page tx over those of the page rx, which is lent to the copier.
@@ -65,27 +76,18 @@ fn copied(mem: &mut [u32], tx: PageId, rx: PageId, words: usize)
     copy::put(&mut mem[base..end], &sent[..words]);
 }
 
-// The tests in their order; then the words go over, and guest 0 hears of it from a secondary.
+// The words go over, and guest 0 hears of it from a secondary; or the error.
+#[tactic(auto, using(parts::proofs::Answers::caller_below, crate::proofs::Control::guests_few), unfolding(crate::proofs::Control::answering, model::specs::Memory::tx_words, model::specs::Send::copied, model::specs::Send::delivered, model::specs::Send::send_base, model::specs::Send::send_effect, model::specs::State::own_mailbox))]
 pub fn send(machine: Machine, mem: &mut [u32]) -> Machine
     requires { (sound machine ≡ true) × (length mem.old ≡ PAGE * machine.m) }
     ensures { state result mem.new ≡ send_effect (state machine mem.old) }
 {
-    let caller = machine.current;
-    let SomeVm::Vm(receiver) = numbers::vm_of(reply::argument(machine, 1), machine.n) else {
-        return reply::with_error(machine, codes::INVALID);
+    let (receiver, words) = match addressed(machine) {
+        Ok(to) => to,
+        Err(refusal) => return reply::with_error(machine, refusal),
     };
-    let words = reply::argument(machine, 2);
-    if parts::same_vm(receiver, caller) | !((1 <= words) & (words <= 1024)) {
-        return reply::with_error(machine, codes::INVALID);
-    }
-    let slots = machine.inboxes;
-    let busy = !inboxes::is_empty(inboxes::inbox_at(slots, receiver));
-    if busy {
-        return reply::with_error(machine, codes::BUSY);
-    }
-    let boxes = machine.mailboxes;
-    let tx = parts::inboxes::mailbox_at(boxes, caller).tx;
-    let rx = parts::inboxes::mailbox_at(boxes, receiver).rx;
+    let tx = inboxes::mailbox_at(machine.mailboxes, machine.current).tx;
+    let rx = inboxes::mailbox_at(machine.mailboxes, receiver).rx;
     copied(mem, tx, rx, words as usize);
     let done = reply::succeeded(delivered(machine, receiver, words));
     notified(done, receiver)

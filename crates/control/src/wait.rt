@@ -7,19 +7,19 @@ ghost use Rattle.model.specs.Wait.{wait_effect};
 
 use crate::poll;
 use model::Machine;
-use parts::{codes, inboxes, reply};
+use parts::{Refusal, codes, reply};
 
 // A waiting message first; then who calls decides.
+#[tactic(auto, using(parts::proofs::Answers::caller_below), unfolding(crate::proofs::Control::answering, model::specs::State::is_empty, model::specs::Wait::wait_effect, model::specs::Wait::wait_verdict))]
 pub fn wait(machine: Machine) -> Machine
     requires { sound machine ≡ true }
     ensures { (memory : List ℕ) → state result memory ≡ wait_effect (state machine memory) }
 {
-    if !inboxes::is_empty(poll::own_inbox(machine)) {
+    if poll::own_inbox(machine).is_some() {
         return poll::poll(machine);
     }
-    let caller = machine.current;
-    if parts::is_primary(caller) {
-        return reply::with_error(machine, codes::NO_DATA);
+    if parts::is_primary(machine.current) {
+        return reply::with_error(machine, Refusal::NoData);
     }
     reply::handed_over(reply::succeeded(machine), codes::WAIT)
 }
