@@ -1,6 +1,6 @@
 -- What the functions ask of the machine, from the clauses that are tested before they are called.
 use Prim.Native.Nat.{ℕ, ◌≤◌, ◌<◌}
-use mathlib.Core.Path.{◌≡◌}
+use mathlib.Core.Path.{◌≡◌, refl}
 use mathlib.Core.Bool.{true}
 use mathlib.Core.List.{List}
 use native.Mathlib.Omega.{arith}
@@ -9,12 +9,16 @@ use Rattle.model.specs.declared.Mailbox.{Mailbox}
 use Rattle.model.specs.declared.PageRecord.{PageRecord}
 use Rattle.model.specs.declared.Transaction.{Transaction}
 use Rattle.model.specs.Constants.{GUESTS, PAGES, HANDLES}
-use Rattle.model.specs.State.{page, handle, record_at, transaction_at}
+use Rattle.model.specs.State.{vm, page, handle, mailbox_at, record_at, transaction_at, count_of}
 use Rattle.model.specs.Sound.{if_owned, each_deal, each_page, page_counts_in_range, mailboxes_below, MailboxesBelow, owners_below, OwnersBelow, parties_below, PartiesBelow, pages_below, PagesBelow}
 use Rattle.model.proofs.Links.{Link, ltb_link, ◌both◌, every_link, every_of_link, if_live_link, if_owned_link}
 use Rattle.parts.specs.Reached.{Reached}
 use Rattle.sound.specs.Rows.{Held}
-use Rattle.sound.proofs.Each.{deal_few}
+use Rattle.sound.proofs.Each.{deal_few, transaction_listed, held_reached}
+use lib.ListN.{length, take, get_or}
+use lib.Seq.{get_or-take}
+use Rattle.std.proofs.lemmas.List.{get_or_read_under, length-take}
+use Rattle.model.specs.declared.PageId.{PageId}
 
 -- The clauses as facts.
 
@@ -76,3 +80,31 @@ held transactions counts parties below h b =
       parties = λ d. (parties_link GUESTS transactions).holds parties h d b;
       reached = reached transactions counts below h b;
     }
+
+pub reached_listed :
+    (transactions : List Transaction) → page_counts_in_range transactions ≡ true → pages_below PAGES transactions ≡ true →
+    length transactions ≡ HANDLES →
+    (t : Transaction) (h : ℕ) → h < length transactions → t ≡ get_or transactions h t → Reached t
+reached_listed transactions counts below sixteen t h b at =
+    rw (transaction_listed transactions t h sixteen b at) (reached transactions counts below h (omega arith))
+
+pub held_below :
+    (t : Transaction) (held : List PageId) → Reached t → (length held ≡ count_of t) × (held ≡ take (count_of t) t.pages) →
+    (p : PageId) (k : ℕ) → k < length held → p ≡ get_or held k p → p.0 < PAGES
+held_below t held fits is p k b at =
+    rw (get_or_read_under held k (length held) p (page 0) at b refl) (held_reached t k fits is b)
+
+-- A guest whose mailbox the loop over the first n comes to: it is below n, and has the mailbox; so its pages can be reached.
+
+pub guest_taken : (n : ℕ) (boxes : List Mailbox) (g : ℕ) → g < length (take n boxes) → g < n
+guest_taken n boxes g b = omega (arith, length-take n boxes)
+
+pub box_taken :
+    (n : ℕ) (boxes : List Mailbox) (g : ℕ) → g < length (take n boxes) → mailbox_at (take n boxes) (vm g) ≡ mailbox_at boxes (vm g)
+unfolding mailbox_at
+box_taken n boxes g b = get_or-take n boxes g _ (guest_taken n boxes g b)
+
+pub box_reached :
+    (n : ℕ) (boxes : List Mailbox) → mailboxes_below n PAGES boxes ≡ true → (g : ℕ) → g < length (take n boxes) →
+    ((mailbox_at (take n boxes) (vm g)).tx.0 < PAGES) × ((mailbox_at (take n boxes) (vm g)).rx.0 < PAGES)
+box_reached n boxes below g b = rw (box_taken n boxes g b) (mailbox_below n PAGES boxes below g (guest_taken n boxes g b))

@@ -1,14 +1,15 @@
--- How the records due are laid out in one pass over the pages, one over the transactions' places and one over the mailboxes.
-use Rattle.std.specs.Prelude.{ℕ, zero, suc, ◌/◌, ◌%◌, ◌≤◌, ◌<◌, ◌≡◌, true, cond, List, ltb, set, None, Some}
+-- How the records due are laid out in one pass over the pages, one over the transactions and one over the mailboxes.
+use Rattle.std.specs.Prelude.{None, Some, ℕ, zero, suc, ◌≤◌, ◌<◌, ◌≡◌, true, List, set}
 use Rattle.model.specs.declared.Mailbox.{Mailbox}
 use Rattle.model.specs.declared.PageRecord.{PageRecord}
 use Rattle.model.specs.declared.Deal.{Deal}
 use Rattle.model.specs.declared.Transaction.{Transaction}
-use Rattle.model.specs.Constants.{GUESTS, PAGES, PLACES}
+use Rattle.model.specs.Constants.{GUESTS, PAGES}
 use Rattle.model.specs.Tests.{set_each}
-use Rattle.model.specs.State.{vm, page, handle, mailbox_at, record_at, transaction_at, page_at, count_of}
+use Rattle.model.specs.State.{vm, page, handle, mailbox_at, record_at, transaction_at}
 use Rattle.model.specs.Row.{mailbox_row, free_row}
 use Rattle.model.specs.Due.{due_in}
+use Rattle.model.specs.Deeds.{recorded}
 use Rattle.model.specs.Sound.{page_counts_in_range, mailboxes_differ, mailboxes_below, owners_below, parties_below, pages_below, pages_no_mailbox, no_page_twice}
 use Rattle.parts.specs.Reached.{Reached}
 
@@ -16,9 +17,9 @@ use Rattle.parts.specs.Reached.{Reached}
 unfoldable pub free_rows : ℕ → List PageRecord → List PageRecord
 free_rows m records = set_each m (λ p. p) (λ p. free_row (record_at records (page p)).owner) records
 
--- place i of a transaction: if it is in use, its page gets the transaction's row
-unfoldable pub place_row : Transaction → ℕ → List PageRecord → List PageRecord
-place_row t i rows = cond (ltb i (count_of t)) (set rows (page_at t i).0 (due_in t.deal None)) rows
+-- a transaction's pages get its row
+unfoldable pub with_row : Transaction → List PageRecord → List PageRecord
+with_row t rows = recorded rows t (due_in t.deal None)
 
 -- a transaction whose row can be made and its pages reached
 pub record Held (t : Transaction) : Type 0 where
@@ -34,13 +35,9 @@ unfoldable pub laid : ℕ → (ℕ → List PageRecord → List PageRecord) → 
 laid zero put rows = rows
 laid (suc k) put rows = put k (laid k put rows)
 
--- all places in one count, 8 for each transaction: whose place k is
-abbrev pub deal_of : List Transaction → ℕ → Transaction
-deal_of transactions k = transaction_at transactions (handle (k / PLACES))
-
--- the pages at the first n of them
+-- the pages of the first n transactions
 unfoldable pub held_rows : ℕ → List Transaction → List PageRecord → List PageRecord
-held_rows n transactions rows = laid n (λ k. place_row (deal_of transactions k) (k % PLACES)) rows
+held_rows n transactions rows = laid n (λ h. with_row (transaction_at transactions (handle h))) rows
 
 -- the mailbox pages of the first n guests
 unfoldable pub box_rows : ℕ → List Mailbox → List PageRecord → List PageRecord

@@ -28,8 +28,8 @@ fn page_count_in_range(life: Life) -> bool
 
 // So for every handle.
 #[tactic(auto, unfolding(model::specs::Sound::each_deal, model::specs::Sound::page_counts_in_range, model::specs::State::transaction_at))]
-pub fn page_counts_in_range(transactions: [Transaction; 16]) -> bool
-    ensures { result ≡ page_counts_in_range transactions }
+pub fn page_counts_in_range(transactions: &[Transaction; 16]) -> bool
+    ensures { result ≡ page_counts_in_range transactions.now }
 {
     transactions.iter().all(|t| page_count_in_range(t.life))
 }

@@ -15,29 +15,16 @@ fn two_parties(life: Life) -> bool
 {
     match life {
         Life::Free => true,
-        Life::Live(d) => {
-            let sender = d.sender;
-            let receiver = d.receiver;
-            !parts::same_vm(sender, receiver)
-        }
+        Life::Live(d) => !parts::same_vm(d.sender, d.receiver),
     }
 }
 
 // So for every handle.
 #[tactic(auto, unfolding(model::specs::Sound::each_deal, model::specs::Sound::parties_differ, model::specs::State::transaction_at))]
-pub fn parties_differ(transactions: [Transaction; 16]) -> bool
-    ensures { result ≡ parties_differ transactions }
+pub fn parties_differ(transactions: &[Transaction; 16]) -> bool
+    ensures { result ≡ parties_differ transactions.now }
 {
-    let mut h: usize = 0;
-    while h < 16 {
-        let t = transactions[h];
-        let life = t.life;
-        if !two_parties(life) {
-            return false;
-        }
-        h += 1;
-    }
-    true
+    transactions.iter().all(|t| two_parties(t.life))
 }
 
 // Both parties are among the n guests.
@@ -53,19 +40,10 @@ fn both_below(n: u8, life: Life) -> bool
 
 // So for every handle.
 #[tactic(auto, unfolding(model::specs::Sound::each_deal, model::specs::Sound::parties_below, model::specs::State::transaction_at))]
-pub fn parties_below(n: u8, transactions: [Transaction; 16]) -> bool
-    ensures { result ≡ parties_below n transactions }
+pub fn parties_below(n: u8, transactions: &[Transaction; 16]) -> bool
+    ensures { result ≡ parties_below n transactions.now }
 {
-    let mut h: usize = 0;
-    while h < 16 {
-        let t = transactions[h];
-        let life = t.life;
-        if !both_below(n, life) {
-            return false;
-        }
-        h += 1;
-    }
-    true
+    transactions.iter().all(|t| both_below(n, t.life))
 }
 
 // A donation has no retrieved mark: retrieved, it is done with.
@@ -84,17 +62,8 @@ fn no_retrieved_donation(life: Life) -> bool
 
 // So for every handle.
 #[tactic(auto, unfolding(model::specs::Sound::each_deal, model::specs::Sound::no_donation_retrieved, model::specs::State::transaction_at))]
-pub fn no_donation_retrieved(transactions: [Transaction; 16]) -> bool
-    ensures { result ≡ no_donation_retrieved transactions }
+pub fn no_donation_retrieved(transactions: &[Transaction; 16]) -> bool
+    ensures { result ≡ no_donation_retrieved transactions.now }
 {
-    let mut h: usize = 0;
-    while h < 16 {
-        let t = transactions[h];
-        let life = t.life;
-        if !no_retrieved_donation(life) {
-            return false;
-        }
-        h += 1;
-    }
-    true
+    transactions.iter().all(|t| no_retrieved_donation(t.life))
 }

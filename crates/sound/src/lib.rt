@@ -11,6 +11,7 @@ mod mailboxes;
 mod marks;
 mod messages;
 mod owners;
+mod pages;
 mod places;
 mod records;
 
@@ -19,90 +20,78 @@ ghost use Rattle.isa.specs.Tests.{◌and◌};
 ghost use Rattle.model.specs.Constants.{GUESTS, PAGES};
 ghost use Rattle.model.specs.Sound.{page_counts_in_range, lengths_in_range, mailboxes_differ, mailboxes_below, owners_below, senders_below, no_own_sender, parties_differ, parties_below, pages_ascend, pages_below, pages_no_mailbox, no_donation_retrieved, no_page_twice, guests_blank, pages_blank, places_blank, sound};
 
-use model::{InboxSlot, Machine, Mailbox, PageRecord, Registers, Transaction};
+use model::Machine;
 
 // Everything that stands for a guest or a page, but for the current guest and the messages' senders, is in range.
-fn in_range(
-    n: u8,
-    m: u8,
-    boxes: [Mailbox; 8],
-    records: [PageRecord; 64],
-    transactions: [Transaction; 16],
-) -> bool
-    requires { (n ≤ GUESTS) × (m ≤ PAGES) × (page_counts_in_range transactions ≡ true) }
-    ensures { result ≡ (mailboxes_below n m boxes and owners_below n m records and parties_below n transactions and pages_below m transactions) }
+fn in_range(machine: &Machine) -> bool
+    requires { (machine.now.n ≤ GUESTS) × (machine.now.m ≤ PAGES) × (page_counts_in_range machine.now.transactions ≡ true) }
+    ensures { result ≡ (mailboxes_below machine.now.n machine.now.m machine.now.mailboxes and owners_below machine.now.n machine.now.m machine.now.records and parties_below machine.now.n machine.now.transactions and pages_below machine.now.m machine.now.transactions) }
 {
-    mailboxes::mailboxes_below(n, m, boxes)
-        & (owners::owners_below(n, m, records)
-            & (deals::parties_below(n, transactions) & places::pages_below(m, transactions)))
+    mailboxes::mailboxes_below(machine.n, machine.m, &machine.mailboxes)
+        & (owners::owners_below(machine.n, machine.m, &machine.records)
+            & (deals::parties_below(machine.n, &machine.transactions)
+                & places::pages_below(machine.m, &machine.transactions)))
 }
 
 // No page has two uses.
-fn uses_differ(n: u8, boxes: [Mailbox; 8], transactions: [Transaction; 16]) -> bool
-    requires { (n ≤ GUESTS) × (mailboxes_below n PAGES boxes ≡ true) × (page_counts_in_range transactions ≡ true) × (pages_below PAGES transactions ≡ true) }
-    ensures { result ≡ (mailboxes_differ n boxes and pages_no_mailbox n boxes transactions and no_page_twice transactions) }
+fn uses_differ(machine: &Machine) -> bool
+    requires { (machine.now.n ≤ GUESTS) × (mailboxes_below machine.now.n PAGES machine.now.mailboxes ≡ true) × (page_counts_in_range machine.now.transactions ≡ true) × (pages_below PAGES machine.now.transactions ≡ true) }
+    ensures { result ≡ (mailboxes_differ machine.now.n machine.now.mailboxes and pages_no_mailbox machine.now.n machine.now.mailboxes machine.now.transactions and no_page_twice machine.now.transactions) }
 {
-    mailboxes::mailboxes_differ(n, boxes)
-        & (places::pages_no_mailbox(n, boxes, transactions) & places::no_page_twice(transactions))
+    mailboxes::mailboxes_differ(machine.n, &machine.mailboxes)
+        & (places::pages_no_mailbox(machine.n, &machine.mailboxes, &machine.transactions)
+            & places::no_page_twice(&machine.transactions))
 }
 
 // The waiting messages.
-fn messages_sound(n: u8, inboxes: [InboxSlot; 8]) -> bool
-    requires { n ≤ GUESTS }
-    ensures { result ≡ (lengths_in_range n inboxes and senders_below n inboxes and no_own_sender n inboxes) }
+fn messages_sound(machine: &Machine) -> bool
+    requires { machine.now.n ≤ GUESTS }
+    ensures { result ≡ (lengths_in_range machine.now.n machine.now.inboxes and senders_below machine.now.n machine.now.inboxes and no_own_sender machine.now.n machine.now.inboxes) }
 {
-    messages::lengths_in_range(n, inboxes)
-        & (messages::senders_below(n, inboxes) & messages::no_own_sender(n, inboxes))
+    messages::lengths_in_range(machine.n, &machine.inboxes)
+        & (messages::senders_below(machine.n, &machine.inboxes)
+            & messages::no_own_sender(machine.n, &machine.inboxes))
 }
 
 // What is left of the transactions' clauses.
-fn deals_sound(transactions: [Transaction; 16]) -> bool
-    requires { page_counts_in_range transactions ≡ true }
-    ensures { result ≡ (parties_differ transactions and pages_ascend transactions and no_donation_retrieved transactions) }
+fn deals_sound(machine: &Machine) -> bool
+    requires { page_counts_in_range machine.now.transactions ≡ true }
+    ensures { result ≡ (parties_differ machine.now.transactions and pages_ascend machine.now.transactions and no_donation_retrieved machine.now.transactions) }
 {
-    deals::parties_differ(transactions)
-        & (places::pages_ascend(transactions) & deals::no_donation_retrieved(transactions))
+    deals::parties_differ(&machine.transactions)
+        & (places::pages_ascend(&machine.transactions)
+            & deals::no_donation_retrieved(&machine.transactions))
 }
 
 // Unused places.
-fn unused_blank(
-    n: u8,
-    m: u8,
-    files: [Registers; 8],
-    boxes: [Mailbox; 8],
-    inboxes: [InboxSlot; 8],
-    records: [PageRecord; 64],
-    transactions: [Transaction; 16],
-) -> bool
-    ensures { result ≡ (guests_blank n files boxes inboxes and pages_blank m records and places_blank transactions) }
+fn unused_blank(machine: &Machine) -> bool
+    ensures { result ≡ (guests_blank machine.now.n machine.now.registers machine.now.mailboxes machine.now.inboxes and pages_blank machine.now.m machine.now.records and places_blank machine.now.transactions) }
 {
-    blank::guests_blank(n, files, boxes, inboxes)
-        & (blank::pages_blank(m, records) & blank::places_blank(transactions))
+    blank::guests_blank(
+        machine.n,
+        &machine.registers,
+        &machine.mailboxes,
+        &machine.inboxes,
+    ) & (blank::pages_blank(machine.m, &machine.records)
+        & blank::places_blank(&machine.transactions))
 }
 
 // Whether the machine is sound: the counts first, and what stands for a guest or a page, so that the rest can be read.
-pub fn is_sound(machine: Machine) -> bool
-    ensures { result ≡ sound machine }
+pub fn is_sound(machine: &Machine) -> bool
+    ensures { result ≡ sound machine.now }
 {
-    let n = machine.n;
-    let m = machine.m;
-    let files = machine.registers;
-    let boxes = machine.mailboxes;
-    let inboxes = machine.inboxes;
-    let records = machine.records;
-    let transactions = machine.transactions;
-    if !(counts::counts_in_range(n, m) & counts::page_counts_in_range(transactions)) {
+    if !(counts::counts_in_range(machine.n, machine.m)
+        & counts::page_counts_in_range(&machine.transactions))
+    {
         return false;
     }
-    if !in_range(n, m, boxes, records, transactions) {
+    if !in_range(machine) {
         return false;
     }
-    if !uses_differ(n, boxes, transactions) {
+    if !uses_differ(machine) {
         return false;
     }
-    (machine.current.0 < n)
-        & (messages_sound(n, inboxes)
-            & (deals_sound(transactions)
-                & (records::records_due(n, m, boxes, transactions, records)
-                    & unused_blank(n, m, files, boxes, inboxes, records, transactions))))
+    (machine.current.0 < machine.n)
+        & (messages_sound(machine)
+            & (deals_sound(machine) & (records::records_due(machine) & unused_blank(machine))))
 }

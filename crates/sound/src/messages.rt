@@ -21,20 +21,14 @@ fn length_in_range(inbox: Inbox) -> bool
 
 // So for every guest.
 #[tactic(auto, unfolding(model::specs::Sound::each_message, model::specs::State::inbox_at, model::specs::Sound::lengths_in_range))]
-pub fn lengths_in_range(n: u8, inboxes: [InboxSlot; 8]) -> bool
+pub fn lengths_in_range(n: u8, inboxes: &[InboxSlot; 8]) -> bool
     requires { n ≤ GUESTS }
-    ensures { result ≡ lengths_in_range n inboxes }
+    ensures { result ≡ lengths_in_range n inboxes.now }
 {
-    let mut g: usize = 0;
-    while g < n as usize {
-        let slot = inboxes[g];
-        let inbox = slot.inbox;
-        if !length_in_range(inbox) {
-            return false;
-        }
-        g += 1;
-    }
-    true
+    inboxes
+        .iter()
+        .take(n as usize)
+        .all(|slot| length_in_range(slot.inbox))
 }
 
 // The sender of a waiting message is among the n guests.
@@ -50,20 +44,14 @@ fn sender_below(n: u8, inbox: Inbox) -> bool
 
 // So for every guest.
 #[tactic(auto, unfolding(model::specs::Sound::each_message, model::specs::State::inbox_at, model::specs::Sound::senders_below))]
-pub fn senders_below(n: u8, inboxes: [InboxSlot; 8]) -> bool
+pub fn senders_below(n: u8, inboxes: &[InboxSlot; 8]) -> bool
     requires { n ≤ GUESTS }
-    ensures { result ≡ senders_below n inboxes }
+    ensures { result ≡ senders_below n inboxes.now }
 {
-    let mut g: usize = 0;
-    while g < n as usize {
-        let slot = inboxes[g];
-        let inbox = slot.inbox;
-        if !sender_below(n, inbox) {
-            return false;
-        }
-        g += 1;
-    }
-    true
+    inboxes
+        .iter()
+        .take(n as usize)
+        .all(|slot| sender_below(n, slot.inbox))
 }
 
 // Guest g did not write to itself.
@@ -79,18 +67,11 @@ fn not_own_sender(g: VmId, inbox: Inbox) -> bool
 
 // So for every guest.
 #[tactic(auto, unfolding(model::specs::Sound::each_message, model::specs::State::inbox_at, model::specs::Sound::no_own_sender))]
-pub fn no_own_sender(n: u8, inboxes: [InboxSlot; 8]) -> bool
+pub fn no_own_sender(n: u8, inboxes: &[InboxSlot; 8]) -> bool
     requires { n ≤ GUESTS }
-    ensures { result ≡ no_own_sender n inboxes }
+    ensures { result ≡ no_own_sender n inboxes.now }
 {
-    let mut g: u8 = 0;
-    while g < n {
-        let slot = inboxes[g as usize];
-        let inbox = slot.inbox;
-        if !not_own_sender(VmId(g), inbox) {
-            return false;
-        }
-        g += 1;
-    }
-    true
+    (0..n)
+        .zip(inboxes.iter())
+        .all(|(g, slot)| not_own_sender(VmId(g), slot.inbox))
 }

@@ -19,18 +19,12 @@ fn owner_below(n: u8, owner: Owner) -> bool
 
 // So for every page.
 #[tactic(auto, unfolding(model::specs::Sound::owners_below, model::specs::State::record_at))]
-pub fn owners_below(n: u8, m: u8, records: [PageRecord; 64]) -> bool
+pub fn owners_below(n: u8, m: u8, records: &[PageRecord; 64]) -> bool
     requires { m ≤ PAGES }
-    ensures { result ≡ owners_below n m records }
+    ensures { result ≡ owners_below n m records.now }
 {
-    let mut p: usize = 0;
-    while p < m as usize {
-        let record = records[p];
-        let owner = record.owner;
-        if !owner_below(n, owner) {
-            return false;
-        }
-        p += 1;
-    }
-    true
+    records
+        .iter()
+        .take(m as usize)
+        .all(|record| owner_below(n, record.owner))
 }

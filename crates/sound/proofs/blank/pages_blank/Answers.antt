@@ -1,21 +1,13 @@
--- `sound::blank::pages_blank` meets its contract: what the loop keeps from turn to turn is what the definition says.
-use Rattle.std.proofs.Common.{arith}
-use Rattle.model.specs.Sound.{pages_blank}
+-- `sound::blank::pages_blank` meets its contract: it asks of each page from m on what the definition does.
+use Rattle.std.proofs.Common.{rules}
+use borrow.Author.Tests.{tests}
+use Rattle.parts.proofs.Loops.{all_skipped}
+use Rattle.model.specs.declared.Owner.TheVariants.{Nobody}
 use Rattle.model.specs.State.{record_at}
-use Rattle.parts.proofs.Loops.{asked_more, asked_stops, every_none}
-use Rattle.sound.proofs.Each.{asked_or}
+use Rattle.model.specs.Row.{same_record, free_row}
+use Rattle.model.specs.Sound.{pages_blank}
 use Rattle.sound.proofs.blank.pages_blank.Goals as goal
 
-pub loop-p-init : goal.loop-p-init
-loop-p-init c = (omega arith, every_none _)
-
-pub returns-then-not-p-m : goal.returns-then-not-p-m
+pub returns : goal.returns
 unfolding pages_blank record_at
-returns-then-not-p-m c =
-    rw
-    (← c.free_row-blank.ensures)
-    (asked_stops _ c.loop-p-test.true (asked_or _ c.same_record.ensures) c.if-not-p-m.true)
-
-pub loop-p-preserved : goal.loop-p-preserved
-unfolding record_at
-loop-p-preserved c = (omega arith, asked_more _ _ c.loop-p.invariant.1 (asked_or _ c.same_record.ensures) c.if-not-p-m.false)
+returns c = all_skipped c.args.m (λ x. same_record x (free_row Nobody)) _ c.args.records.now _ c.all.ensures.ran (cc) (cc) (λ x b q k. search (rules, tests)) (search rules)

@@ -1,21 +1,19 @@
--- `sound::blank::places_blank` meets its contract: what the loop keeps from turn to turn is what the definition says.
-use Rattle.std.proofs.Common.{arith}
+-- `sound::blank::places_blank` meets its contract: it asks of each transaction what the definition does.
+use Rattle.std.proofs.Common.{rules, ltb}
+use Rattle.std.specs.Prelude.{Bool}
+use borrow.Author.Tests.{tests}
+use Rattle.parts.proofs.Loops.{all_listed}
+use Rattle.isa.specs.Tests.{◌or◌}
+use Rattle.model.specs.declared.Transaction.{Transaction}
+use Rattle.model.specs.Constants.{PLACES}
+use Rattle.model.specs.Tests.{every}
+use Rattle.model.specs.State.{page, same_page, page_at, count_of, transaction_at}
 use Rattle.model.specs.Sound.{places_blank}
-use Rattle.model.specs.State.{transaction_at}
-use Rattle.parts.proofs.Loops.{asked_more, asked_stops, asked_whole, every_none}
 use Rattle.sound.proofs.blank.places_blank.Goals as goal
 
-pub loop-h-init : goal.loop-h-init
-loop-h-init c = (omega arith, every_none _)
-
-pub returns-then-not-spare_blank : goal.returns-then-not-spare_blank
-unfolding places_blank transaction_at
-returns-then-not-spare_blank c = asked_stops _ c.loop-h-test.true c.spare_blank.ensures c.if-not-spare_blank.true
-
-pub loop-h-preserved : goal.loop-h-preserved
-unfolding transaction_at
-loop-h-preserved c = (omega arith, asked_more _ _ c.loop-h.invariant.1 c.spare_blank.ensures c.if-not-spare_blank.false)
+abbrev blank : Transaction → Bool
+blank t = every PLACES (λ i. ltb i (count_of t) or same_page (page_at t i) (page 0))
 
 pub returns : goal.returns
-unfolding places_blank
-returns c = asked_whole _ c.loop-h.invariant c.loop-h-test.false
+unfolding places_blank transaction_at
+returns c = all_listed blank _ c.args.transactions.now _ c.all.ensures.ran (cc) (λ x b q k. search (rules, tests)) (search rules)

@@ -1,25 +1,10 @@
--- `sound::blank::spare_blank` meets its contract: what the loop keeps from turn to turn is what the definition says.
-use Rattle.std.proofs.Common.{arith, get_or, ltb, refl}
-use Rattle.isa.specs.Tests.{◌or◌}
-use Rattle.model.specs.State.{page, page_at, same_page}
-use Rattle.parts.proofs.Loops.{asked_more, asked_stops, every_none}
-use Rattle.sound.proofs.Each.{asked_or}
+-- `sound::blank::spare_blank` meets its contract: it asks of each place from the count on what the definition does.
+use Rattle.std.proofs.Common.{rules, eqb}
+use borrow.Author.Tests.{tests}
+use Rattle.parts.proofs.Loops.{all_skipped}
+use Rattle.model.specs.State.{page_at, same_page, count_of}
 use Rattle.sound.proofs.blank.spare_blank.Goals as goal
 
-pub loop-i-init : goal.loop-i-init
-loop-i-init c = (omega arith, every_none _)
-
-pub returns-then-not-i-count : goal.returns-then-not-i-count
+pub returns : goal.returns
 unfolding page_at same_page
-returns-then-not-i-count c =
-    rw
-    (← c.count_of-count.ensures)
-    (asked_stops
-    (λ k. ltb k c.count_of-count.result or same_page (get_or c.args.t.pages k (page 0)) (page 0))
-    c.loop-i-test.true
-    (asked_or _ refl)
-    c.if-not-i-count.true)
-
-pub loop-i-preserved : goal.loop-i-preserved
-unfolding same_page
-loop-i-preserved c = (omega arith, asked_more _ _ c.loop-i.invariant.1 (asked_or _ refl) c.if-not-i-count.false)
+returns c = all_skipped (count_of c.args.t.now) (λ p. eqb p.0 0) _ c.args.t.now.pages _ c.all.ensures.ran (cc) (cc) (λ x b q k. search (rules, tests)) (search rules)

@@ -1,19 +1,17 @@
--- `sound::mailboxes::mailboxes_below` meets its contract: what the loop keeps from turn to turn is what the definition
--- says.
-use Rattle.std.proofs.Common.{arith, sym}
+-- `sound::mailboxes::mailboxes_below` meets its contract: it asks of the mailbox of each guest what the definition does.
+use Rattle.std.proofs.Common.{rules, ltb}
+use Rattle.std.specs.Prelude.{ℕ, Bool}
+use borrow.Author.Tests.{tests}
+use Rattle.parts.proofs.Loops.{all_taken}
 use Rattle.isa.specs.Tests.{◌and◌}
-use Rattle.model.specs.Sound.{mailboxes_below}
+use Rattle.model.specs.declared.Mailbox.{Mailbox}
 use Rattle.model.specs.State.{mailbox_at}
-use Rattle.parts.proofs.Loops.{every_more, every_none, every_stops}
+use Rattle.model.specs.Sound.{mailboxes_below}
 use Rattle.sound.proofs.mailboxes.mailboxes_below.Goals as goal
 
-pub loop-g-init : goal.loop-g-init
-loop-g-init c = (omega arith, every_none _)
+abbrev below : ℕ → Mailbox → Bool
+below m box = ltb box.tx.0 m and ltb box.rx.0 m
 
-pub returns-then-not-mailbox-m : goal.returns-then-not-mailbox-m
+pub returns : goal.returns
 unfolding mailboxes_below mailbox_at ◌and◌
-returns-then-not-mailbox-m c = sym (every_stops _ c.loop-g-test.true c.if-not-mailbox-m.true)
-
-pub loop-g-preserved : goal.loop-g-preserved
-unfolding mailbox_at ◌and◌
-loop-g-preserved c = (omega arith, every_more _ _ c.loop-g.invariant.1 c.if-not-mailbox-m.false)
+returns c = all_taken c.args.n (below c.args.m) _ c.args.boxes.now _ c.all.ensures.ran (cc) (cc) (λ x b q k. search (rules, tests)) (search rules)

@@ -1,22 +1,17 @@
--- `sound::marks::fresh_pages` meets its contract: what the loop keeps from turn to turn is what the definition says.
-use Rattle.std.proofs.Common.{arith, sym, ◌≤◌}
-use Rattle.isa.proofs.Tests.{false_not, true_not}
-use Rattle.model.specs.Constants.{PLACES}
-use Rattle.model.specs.State.{page_at}
-use Rattle.parts.proofs.Loops.{every_more, every_none, every_stops}
+-- `sound::marks::fresh_pages` meets its contract: it asks of each page what the definition does.
+use Rattle.std.proofs.Common.{rules, not}
+use Rattle.std.proofs.lemmas.Iterator.{YieldsList-from_slice}
+use Rattle.std.proofs.lemmas.Iterator.Adapters.{serves_from_places}
+use Rattle.sound.proofs.Asked.{held_below}
+use borrow.Author.Tests.{tests}
 use Rattle.sound.specs.Marks.{marked}
+use Rattle.sound.proofs.Each.{all_held}
 use Rattle.sound.proofs.marks.fresh_pages.Goals as goal
 
-pub loop-i-init : goal.loop-i-init
-loop-i-init c = (omega arith, every_none _)
+pub all-requires-clause-callable : goal.all-requires-clause-callable
+all-requires-clause-callable c =
+    serves_from_places (YieldsList-from_slice c.held.result.now (cc)) (λ x q k. search rules) (λ x k b at. let fits = held_below _ c.held.result.now c.requires c.held.ensures x.now k b at in search rules)
 
-pub returns-then-seen-p : goal.returns-then-seen-p
-unfolding marked page_at
-returns-then-seen-p c =
-    rw (← c.count_of-count.ensures) (sym (every_stops _ c.loop-i-test.true (true_not c.if-seen-p.true)))
-
-pub loop-i-preserved : goal.loop-i-preserved
+pub returns : goal.returns
 unfolding marked
-loop-i-preserved c =
-    let few : c.count_of-count.result ≤ PLACES = rw c.count_of-count.ensures c.requires.few in
-    (omega arith, every_more _ _ c.loop-i.invariant.1 (false_not c.if-seen-p.false))
+returns c = all_held (λ p. not (marked c.args.seen.now p)) c.args.t.now _ c.held.ensures c.all.ensures.ran (cc) (λ x b q k. search (rules, tests))

@@ -1,22 +1,18 @@
--- `sound::messages::no_own_sender` meets its contract: what the loop keeps from turn to turn is what the definition
--- says.
-use Rattle.std.proofs.Common.{arith}
-use Rattle.model.specs.Sound.{each_message, no_own_sender}
+-- `sound::messages::no_own_sender` meets its contract: it asks of the message of each guest, by the guest's number, what the definition does.
+use Rattle.std.proofs.Common.{rules, ◌∙◌, arith}
+use borrow.Author.Tests.{tests}
+use Rattle.std.proofs.lemmas.Iterator.{YieldsList-from_slice, YieldsList-from_range, YieldsList-from_zip}
+use Rattle.std.proofs.lemmas.Iterator.Search.{all_from_yields_List}
 use Rattle.model.specs.State.{inbox_at}
-use Rattle.parts.proofs.Loops.{asked_more, asked_stops, asked_whole, every_none}
+use Rattle.model.specs.Sound.{each_message, no_own_sender}
+use Rattle.parts.proofs.Loops.{every_numbered}
+use Rattle.sound.proofs.Each.{from_another}
 use Rattle.sound.proofs.messages.no_own_sender.Goals as goal
 
-pub loop-g-init : goal.loop-g-init
-loop-g-init c = (omega arith, every_none _)
-
-pub returns-then-not-not_own_sender : goal.returns-then-not-not_own_sender
-unfolding no_own_sender each_message inbox_at
-returns-then-not-not_own_sender c = asked_stops _ c.loop-g-test.true c.not_own_sender.ensures c.if-not-not_own_sender.true
-
-pub loop-g-preserved : goal.loop-g-preserved
-unfolding inbox_at
-loop-g-preserved c = (omega arith, asked_more _ _ c.loop-g.invariant.1 c.not_own_sender.ensures c.if-not-not_own_sender.false)
-
 pub returns : goal.returns
-unfolding no_own_sender each_message
-returns c = asked_whole _ c.loop-g.invariant c.loop-g-test.false
+unfolding no_own_sender each_message inbox_at
+returns c =
+    all_from_yields_List from_another c.all.new.self _ _ c.all.ensures.ran
+    (YieldsList-from_zip (YieldsList-from_range 0 c.args.n c.args.n c.zip.ensures.first (omega arith)) (YieldsList-from_slice c.args.inboxes.now (cc)))
+    (λ x b q k. search (rules, tests))
+    ∙ every_numbered _ from_another c.args.inboxes.now c.args.n (omega arith)

@@ -1,20 +1,10 @@
--- `sound::places::ascends` meets its contract: what the loop keeps from turn to turn is what the definition says.
-use Rattle.std.proofs.Common.{add-one, arith, le-ltb, lt-ltb, sym}
-use Rattle.model.specs.State.{page_at}
-use Rattle.model.specs.Tests.{ascending}
-use Rattle.parts.proofs.Loops.{every_more, every_none, every_stops}
+-- `sound::places::ascends` meets its contract: it asks of each page and the next what the definition does.
+use Rattle.std.proofs.Common.{rules, ltb}
+use Rattle.std.proofs.lemmas.List.Sorted.{answers_always}
+use borrow.Author.Tests.{tests}
+use Rattle.sound.proofs.Each.{held_ascend}
 use Rattle.sound.proofs.places.ascends.Goals as goal
 
-pub loop-i-init : goal.loop-i-init
-loop-i-init c = (omega arith, every_none _)
-
-pub returns-then-pages-i : goal.returns-then-pages-i
-unfolding ascending page_at
-returns-then-pages-i c =
-    rw
-    (← c.count_of-count.ensures)
-    (sym (every_stops _ (omega arith) (le-ltb _ _ (rw add-one at c.if-pages-i.true))))
-
-pub loop-i-preserved : goal.loop-i-preserved
-loop-i-preserved c =
-    (omega arith, every_more _ _ c.loop-i.invariant.1 (lt-ltb _ _ (rw add-one at c.if-pages-i.false)))
+pub returns : goal.returns
+returns c =
+    held_ascend c.args.t.now _ c.held.ensures (c.is_sorted_by.ensures.cases (λ p q. ltb p.0 q.0) (answers_always _ _ _ (λ f a r g h. search (rules, tests))))

@@ -1,26 +1,24 @@
--- `sound::places::pages_ascend` meets its contract: what the loop keeps from turn to turn is what the definition says.
-use Rattle.std.proofs.Common.{arith}
+-- `sound::places::pages_ascend` meets its contract: it asks of the pages of each transaction what the definition does.
+use Rattle.std.proofs.Common.{rules}
+use Rattle.std.specs.Prelude.{Bool}
+use Rattle.std.proofs.lemmas.Iterator.{YieldsList-from_slice}
+use Rattle.std.proofs.lemmas.Iterator.Adapters.{serves_from_places}
+use borrow.Author.Tests.{tests}
+use Rattle.model.specs.declared.Transaction.{Transaction}
+use Rattle.model.specs.Tests.{ascending}
+use Rattle.model.specs.State.{page_at, count_of, transaction_at}
 use Rattle.model.specs.Sound.{pages_ascend}
-use Rattle.model.specs.State.{transaction_at}
-use Rattle.parts.proofs.Loops.{asked_more, asked_stops, asked_whole, every_none}
-use Rattle.sound.proofs.Each.{deal_few}
+use Rattle.parts.proofs.Loops.{all_listed}
+use Rattle.sound.proofs.Each.{few_listed}
 use Rattle.sound.proofs.places.pages_ascend.Goals as goal
 
-pub loop-h-init : goal.loop-h-init
-loop-h-init c = (omega arith, every_none _)
+abbrev ascend : Transaction → Bool
+ascend t = ascending (count_of t) (λ i. (page_at t i).0)
 
-pub returns-then-not-ascends : goal.returns-then-not-ascends
-unfolding pages_ascend transaction_at
-returns-then-not-ascends c = asked_stops _ c.loop-h-test.true c.ascends.ensures c.if-not-ascends.true
-
-pub loop-h-preserved : goal.loop-h-preserved
-unfolding transaction_at
-loop-h-preserved c = (omega arith, asked_more _ _ c.loop-h.invariant.1 c.ascends.ensures c.if-not-ascends.false)
+pub all-requires-clause-callable : goal.all-requires-clause-callable
+all-requires-clause-callable c =
+    serves_from_places (YieldsList-from_slice c.args.transactions.now (cc)) (λ x q k. search rules) (λ x k b at. let few = few_listed _ c.requires (search rules) x.now k b at in search rules)
 
 pub returns : goal.returns
-unfolding pages_ascend
-returns c = asked_whole _ c.loop-h.invariant c.loop-h-test.false
-
-pub ascends-requires : goal.ascends-requires
-unfolding transaction_at
-ascends-requires c = deal_few _ c.requires _ c.loop-h-test.true
+unfolding pages_ascend transaction_at
+returns c = all_listed ascend _ c.args.transactions.now _ c.all.ensures.ran (cc) (λ x b q k. search (rules, tests)) (search rules)

@@ -1,26 +1,16 @@
--- `sound::places::pages_below` meets its contract: what the loop keeps from turn to turn is what the definition says.
-use Rattle.std.proofs.Common.{arith}
-use Rattle.model.specs.Sound.{each_page, pages_below}
-use Rattle.model.specs.State.{transaction_at}
-use Rattle.parts.proofs.Loops.{asked_more, asked_stops, asked_whole, every_none}
-use Rattle.sound.proofs.Each.{deal_few}
+-- `sound::places::pages_below` meets its contract: it asks of the pages of each transaction what the definition does.
+use Rattle.std.proofs.Common.{rules}
+use Rattle.std.proofs.lemmas.Iterator.{YieldsList-from_slice}
+use Rattle.std.proofs.lemmas.Iterator.Adapters.{serves_from_places}
+use borrow.Author.Tests.{tests}
+use Rattle.model.specs.Sound.{pages_below}
+use Rattle.sound.proofs.Each.{all_pages, few_listed}
 use Rattle.sound.proofs.places.pages_below.Goals as goal
 
-pub loop-h-init : goal.loop-h-init
-loop-h-init c = (omega arith, every_none _)
-
-pub returns-then-not-all_below : goal.returns-then-not-all_below
-unfolding pages_below each_page transaction_at
-returns-then-not-all_below c = asked_stops _ c.loop-h-test.true c.all_below.ensures c.if-not-all_below.true
-
-pub loop-h-preserved : goal.loop-h-preserved
-unfolding transaction_at
-loop-h-preserved c = (omega arith, asked_more _ _ c.loop-h.invariant.1 c.all_below.ensures c.if-not-all_below.false)
+pub all-requires-clause-callable : goal.all-requires-clause-callable
+all-requires-clause-callable c =
+    serves_from_places (YieldsList-from_slice c.args.transactions.now (cc)) (λ x q k. search rules) (λ x k b at. let few = few_listed _ c.requires (search rules) x.now k b at in search rules)
 
 pub returns : goal.returns
-unfolding pages_below each_page
-returns c = asked_whole _ c.loop-h.invariant c.loop-h-test.false
-
-pub all_below-requires : goal.all_below-requires
-unfolding transaction_at
-all_below-requires c = deal_few _ c.requires _ c.loop-h-test.true
+unfolding pages_below
+returns c = all_pages _ _ c.all.ensures.ran (cc) (λ x b q k. search (rules, tests)) (search rules)

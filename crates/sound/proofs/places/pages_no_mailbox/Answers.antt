@@ -1,35 +1,20 @@
--- `sound::places::pages_no_mailbox` meets its contract: what the loop keeps from turn to turn is what the definition
--- says.
-use Rattle.std.proofs.Common.{arith}
-use Rattle.sound.proofs.Asked.{page_below}
-use Rattle.model.specs.Sound.{each_page}
-use Rattle.model.specs.State.{transaction_at}
-use Rattle.parts.proofs.Loops.{asked_more, asked_stops, asked_whole, every_none}
-use Rattle.sound.proofs.Asked.{reached}
+-- `sound::places::pages_no_mailbox` meets its contract: it asks of the pages of each transaction that none has a mark, and the marked pages are the mailboxes'.
+use Rattle.std.proofs.Common.{rules}
+use Rattle.std.proofs.Common.{◌∙◌, not, sym}
+use Rattle.std.proofs.lemmas.Iterator.{YieldsList-from_slice}
+use Rattle.std.proofs.lemmas.Iterator.Adapters.{serves_from_places}
+use borrow.Author.Tests.{tests}
+use Rattle.sound.specs.Marks.{marked}
+use Rattle.sound.proofs.Each.{all_pages}
+use Rattle.sound.proofs.Asked.{page_below, reached_listed}
 use Rattle.sound.proofs.Marked.{no_mailbox_fresh}
 use Rattle.sound.proofs.places.pages_no_mailbox.Goals as goal
 
-pub loop-h-init : goal.loop-h-init
-loop-h-init c = (omega arith, every_none _)
-
-pub fresh_pages-requires : goal.fresh_pages-requires
-unfolding transaction_at
-fresh_pages-requires c = reached _ c.requires.2 c.requires.3 c.loop-h.h c.loop-h-test.true
-
-pub returns-then-not-fresh_pages : goal.returns-then-not-fresh_pages
-unfolding each_page transaction_at
-returns-then-not-fresh_pages c =
-    rw
-    (no_mailbox_fresh _ _ _ (page_below _ _ c.requires.3) c.box_marks-seen.ensures)
-    (asked_stops _ c.loop-h-test.true c.fresh_pages.ensures c.if-not-fresh_pages.true)
-
-pub loop-h-preserved : goal.loop-h-preserved
-unfolding transaction_at
-loop-h-preserved c = (omega arith, asked_more _ _ c.loop-h.invariant.1 c.fresh_pages.ensures c.if-not-fresh_pages.false)
+pub all-requires-clause-callable : goal.all-requires-clause-callable
+all-requires-clause-callable c =
+    serves_from_places (YieldsList-from_slice c.args.transactions.now (cc)) (λ x q k. search rules) (λ x k b at. let fits = reached_listed _ c.requires.2 c.requires.3 (search rules) x.now k b at in search rules)
 
 pub returns : goal.returns
-unfolding each_page
 returns c =
-    rw
-    (no_mailbox_fresh _ _ _ (page_below _ _ c.requires.3) c.box_marks-seen.ensures)
-    (asked_whole _ c.loop-h.invariant c.loop-h-test.false)
+    all_pages (λ p. not (marked c.box_marks-seen.result p)) _ c.all.ensures.ran (cc) (λ x b q k. search (rules, tests)) (search rules)
+    ∙ sym (no_mailbox_fresh _ _ _ (page_below _ _ c.requires.3) c.box_marks-seen.ensures)

@@ -1,6 +1,4 @@
--- `sound::records::due_records` meets its contract: what is laid out is due at each page. The lengths are the types'.
-use Rattle.std.proofs.Common.{length, rules, ◌≡◌}
-use Rattle.model.specs.Constants.{HANDLES, PAGES}
+-- `sound::records::due_records` meets its contract: what is laid out is due at each page.
 use Rattle.sound.proofs.Asked.{mailboxes_fit, pages_fit, parties_fit}
 use Rattle.sound.proofs.Dues.{laid_due}
 use Rattle.sound.proofs.records.due_records.Goals as goal
@@ -19,7 +17,5 @@ box_rows-requires c =
 
 pub returns : goal.returns
 returns c =
-    let sixty_four : length c.args.records ≡ PAGES = search rules in
-    let sixteen : length c.args.transactions ≡ HANDLES = search rules in
-    rw (c.box_rows.ensures, c.held_rows-held.ensures, c.free_rows-free.ensures)
-    (laid_due _ _ _ _ _ c.requires sixty_four sixteen)
+    rw (c.box_rows.ensures, c.held_rows-held.ensures.rows, c.free_rows-free.ensures.rows)
+    (laid_due _ _ _ _ _ c.requires c.free_rows-free.ensures.places c.held_rows-held.ensures.places)

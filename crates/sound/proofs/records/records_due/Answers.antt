@@ -1,26 +1,23 @@
--- `sound::records::records_due` meets its contract: what the loop keeps from turn to turn is what the definition says.
-use Rattle.std.proofs.Common.{arith}
+-- `sound::records::records_due` meets its contract: it asks of each record and the one due whether they are the same.
+use Rattle.std.proofs.Common.{rules, arith, length, ◌∙◌, ◌≡◌}
+use Rattle.model.specs.Constants.{PAGES}
+use borrow.Author.Tests.{tests}
+use Rattle.std.proofs.lemmas.Iterator.{YieldsList-from_slice, YieldsList-from_zip, YieldsList-from_take}
+use Rattle.std.proofs.lemmas.Iterator.Search.{all_from_yields_List}
 use Rattle.model.specs.State.{record_at}
-use Rattle.parts.proofs.Loops.{asked_more, asked_stops, asked_whole, every_none}
-use Rattle.sound.proofs.Dues.{all_as_laid}
+use Rattle.sound.proofs.Dues.{all_as_laid, same}
+use Rattle.parts.proofs.Loops.{every_taken_zip}
 use Rattle.sound.proofs.records.records_due.Goals as goal
 
-pub loop-p-init : goal.loop-p-init
-loop-p-init c = (omega arith, every_none _)
-
-pub returns-then-not-same_record : goal.returns-then-not-same_record
-unfolding record_at
-returns-then-not-same_record c =
-    rw
-    (← all_as_laid _ _ _ _ _ _ c.due_records-dues.ensures)
-    (asked_stops _ c.loop-p-test.true c.same_record.ensures c.if-not-same_record.true)
-
-pub loop-p-preserved : goal.loop-p-preserved
-unfolding record_at
-loop-p-preserved c = (omega arith, asked_more _ _ c.loop-p.invariant.1 c.same_record.ensures c.if-not-same_record.false)
-
 pub returns : goal.returns
+unfolding record_at
 returns c =
-    rw
-    (← all_as_laid _ _ _ _ _ _ c.due_records-dues.ensures)
-    (asked_whole _ c.loop-p.invariant c.loop-p-test.false)
+    let records = c.args.machine.now.records in
+    let dues = c.due_records-dues.result in
+    let sixty_four : length records ≡ PAGES = search rules in
+    let as_many : length dues ≡ PAGES = search rules in
+    all_from_yields_List same c.all.new.self _ _ c.all.ensures.ran
+    (YieldsList-from_take c.args.machine.now.m (YieldsList-from_zip (YieldsList-from_slice records (cc)) (YieldsList-from_slice dues (cc))) (cc))
+    (λ x b q k. search (rules, tests))
+    ∙ every_taken_zip _ _ same records dues c.args.machine.now.m (omega (arith, c.requires.sixty_four_pages)) (omega arith)
+    ∙ all_as_laid _ _ _ _ _ _ c.due_records-dues.ensures
