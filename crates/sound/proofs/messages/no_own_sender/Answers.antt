@@ -14,5 +14,5 @@ unfolding no_own_sender each_message inbox_at
 returns c =
     all_from_yields_List from_another c.all.new.self _ _ c.all.ensures.ran
     (YieldsList-from_zip (YieldsList-from_range 0 c.args.n c.args.n c.zip.ensures.first (omega arith)) (YieldsList-from_slice c.args.inboxes.now (cc)))
-    (λ x b q k. search (rules, tests))
+    (λ x b q k. (search rules, search (rules, tests)))
     ∙ every_numbered _ from_another c.args.inboxes.now c.args.n (omega arith)
