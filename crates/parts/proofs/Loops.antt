@@ -34,7 +34,7 @@ use Rattle.std.specs.Prelude.{◌&&◌}
 use Rattle.isa.specs.Tests.{◌and◌, ◌or◌}
 use Rattle.isa.proofs.Tests.{not_both, cannot_pass, and_intro, or_left}
 use Rattle.model.specs.Tests.{every, set_each}
-use Rattle.model.proofs.Tests.{every_at, at_every, every_same}
+use Rattle.model.proofs.Tests.{every_at, at_every, every_same, both_and}
 
 -- Every number below n passes the test: it begins, it goes on past i, it stops at i, it has come to the end.
 
@@ -80,11 +80,6 @@ set_whole place value l h b e = rw (le_antisymm b h) e
 
 -- A list asked by number below n, or its first n elements one after the other.
 
-same_test : (a b : Bool) → (a && b) ≡ (a and b)
-unfolding ◌and◌
-same_test true b = refl
-same_test false b = refl
-
 pub every_taken : {A : Type 0} (d : A) (p : A → Bool) (xs : List A) (n : ℕ) → n ≤ length xs
     → list_all p (take n xs) ≡ every n (λ k. p (get_or xs k d))
 unfolding every
@@ -92,7 +87,7 @@ every_taken d p xs zero h = refl
 every_taken d p xs (suc n) h =
     let on = every_taken d p xs n (le_of_suc-le h) in
     let more : list_all p (take (n + 1) xs) ≡ (list_all p (take n xs) && p (get_or xs n d)) = list_all_more p xs n d (omega arith) in
-    rw (← add-one n, more, on) (same_test _ _)
+    rw (← add-one n, more, on) (both_and _ _)
 
 -- all of them
 pub every_listed : {A : Type 0} (d : A) (p : A → Bool) (xs : List A) {n : ℕ} → length xs ≡ n
@@ -124,7 +119,7 @@ dropped_so_far d p xs n (suc j) h =
           let here : n + (j - n) ≡ j = omega arith in
           let more : list_all p (take ((j - n) + 1) (drop n xs)) ≡ (list_all p (take (j - n) (drop n xs)) && p (get_or (drop n xs) (j - n) d)) = list_all_more p (drop n xs) (j - n) d (omega (arith, length-drop n xs)) in
           rw (next, more, on, get_or-drop n xs (j - n) d, here)
-          (same_test _ _ ∙ ap (λ (b : Bool). every j (λ k. ltb k n or p (get_or xs k d)) and b) (sym (or_second (p (get_or xs j d)) (le-ltb j n (omega arith)))))
+          (both_and _ _ ∙ ap (λ (b : Bool). every j (λ k. ltb k n or p (get_or xs k d)) and b) (sym (or_second (p (get_or xs j d)) (le-ltb j n (omega arith)))))
     ]
 
 pub every_dropped : {A : Type 0} (d : A) (p : A → Bool) (xs : List A) (n : ℕ) {m : ℕ} → length xs ≡ m

@@ -88,20 +88,20 @@ unfolding each_page transaction_at
 all_pages test u ran here asks sixteen = all_listed (λ t. every (count_of t) (λ i. test (page_at t i))) _ _ u ran here asks sixteen
 
 pub all_messages :
-    {F : Type 0} {g : Mut F (Bor Option Message × Unit {0}) Bool} {s : Take (Iter Option Message)} {f : F} {r : Bool} {n : ℕ} {inboxes : List (Option Message)}
-    (test : ℕ → VmId → Bool) (u : Take (Iter Option Message)) → ChecksAll (take_steps fronts) g s f r u → iter_rest (take_source s) ≡ inboxes → take_count s ≡ n →
-    ((x : Bor Option Message) (b : Bool) (q : F) → Called g f (x, tt) b q → (q ≡ f) × (b ≡ if_full x.now.inbox test)) →
+    {F : Type 0} {g : Mut F (Bor (Option Message) × Unit {0}) Bool} {s : Take (Iter (Option Message))} {f : F} {r : Bool} {n : ℕ} {inboxes : List (Option Message)}
+    (test : ℕ → VmId → Bool) (u : Take (Iter (Option Message))) → ChecksAll (take_steps fronts) g s f r u → iter_rest (take_source s) ≡ inboxes → take_count s ≡ n →
+    ((x : Bor (Option Message)) (b : Bool) (q : F) → Called g f (x, tt) b q → (q ≡ f) × (b ≡ if_full x.now test)) →
     n ≤ length inboxes → r ≡ each_message n inboxes (λ g. test)
 unfolding each_message inbox_at
-all_messages test u ran here first asks few = all_taken _ (λ x. if_full x.inbox test) _ _ u ran here first asks few
+all_messages test u ran here first asks few = all_taken _ (λ x. if_full x test) _ _ u ran here first asks few
 
 -- Lists side by side: what each guest has, its message with its number.
 
 abbrev pub blank : (Registers × Mailbox) × Option Message → Bool
-blank p = blank_guest p.0.0 p.0.1 p.1.inbox
+blank p = blank_guest p.0.0 p.0.1 p.1
 
 abbrev pub from_another : ℕ × Option Message → Bool
-from_another p = if_full p.1.inbox (λ length sender. not (same_vm sender (vm p.0)))
+from_another p = if_full p.1 (λ length sender. not (same_vm sender (vm p.0)))
 
 -- The pages that a transaction holds: all of them pass, each is below the next.
 

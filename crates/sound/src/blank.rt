@@ -7,7 +7,7 @@ ghost use Rattle.model.specs.Tests.{every};
 ghost use Rattle.model.specs.State.{page, same_page, register, page_at, count_of};
 ghost use Rattle.model.specs.Sound.{blank_guest, guests_blank, pages_blank, places_blank};
 
-use model::{Inbox, InboxSlot, Mailbox, Owner, PageRecord, Registers, Transaction};
+use model::{Mailbox, Message, PageRecord, Registers, Transaction};
 
 // All eight registers are zero.
 #[tactic(auto, unfolding(model::specs::State::register))]
@@ -19,7 +19,7 @@ fn registers_zero(file: &Registers) -> bool
 
 // Nothing is kept of this guest.
 #[tactic(auto, unfolding(model::specs::Sound::blank_guest, model::specs::State::same_page))]
-fn blank_guest(file: &Registers, mailbox: &Mailbox, inbox: Inbox) -> bool
+fn blank_guest(file: &Registers, mailbox: &Mailbox, inbox: Option<Message>) -> bool
     ensures { result ≡ blank_guest file.now mailbox.now inbox }
 {
     registers_zero(file)
@@ -34,7 +34,7 @@ pub fn guests_blank(
     n: u8,
     files: &[Registers; 8],
     boxes: &[Mailbox; 8],
-    inboxes: &[InboxSlot; 8],
+    inboxes: &[Option<Message>; 8],
 ) -> bool
     ensures { result ≡ guests_blank n files.now boxes.now inboxes.now }
 {
@@ -43,7 +43,7 @@ pub fn guests_blank(
         .zip(boxes.iter())
         .zip(inboxes.iter())
         .skip(n as usize)
-        .all(|((file, mailbox), slot)| blank_guest(file, mailbox, slot.inbox))
+        .all(|((file, mailbox), inbox)| blank_guest(file, mailbox, *inbox))
 }
 
 // Every page from m on has the record of a spare page.
@@ -51,7 +51,7 @@ pub fn guests_blank(
 pub fn pages_blank(m: u8, records: &[PageRecord; 64]) -> bool
     ensures { result ≡ pages_blank m records.now }
 {
-    let blank = parts::free_row(Owner::Nobody);
+    let blank = parts::free_row(None);
     records
         .iter()
         .skip(m as usize)

@@ -5,7 +5,7 @@ ghost use Rattle.isa.specs.Tests.{◌and◌};
 ghost use Rattle.model.specs.Constants.{PLACES};
 ghost use Rattle.model.specs.Sound.{if_live, counts_in_range, page_counts_in_range};
 
-use model::{Life, Transaction};
+use model::{Deal, Transaction};
 
 // 2 to 8 guests, and pages for two mailboxes each up to 64.
 #[tactic(auto, unfolding(model::specs::Sound::counts_in_range))]
@@ -16,14 +16,11 @@ pub fn counts_in_range(n: u8, m: u8) -> bool
 }
 
 // A live transaction has 1 to 8 pages.
-#[tactic(auto, unfolding(model::specs::Sound::if_live))]
-fn page_count_in_range(life: Life) -> bool
-    ensures { result ≡ if_live life (λ d. leb 1 d.count and leb d.count PLACES) }
+#[tactic(auto, unfolding(model::specs::Sound::if_live, isa::proofs::Tests::joined))]
+fn page_count_in_range(deal: Option<Deal>) -> bool
+    ensures { result ≡ if_live deal (λ d. leb 1 d.count and leb d.count PLACES) }
 {
-    match life {
-        Life::Free => true,
-        Life::Live(d) => (1 <= d.count) & (d.count <= 8),
-    }
+    deal.is_none_or(|d| (1 <= d.count) & (d.count <= 8))
 }
 
 // So for every handle.
@@ -31,5 +28,5 @@ fn page_count_in_range(life: Life) -> bool
 pub fn page_counts_in_range(transactions: &[Transaction; 16]) -> bool
     ensures { result ≡ page_counts_in_range transactions.now }
 {
-    transactions.iter().all(|t| page_count_in_range(t.life))
+    transactions.iter().all(|t| page_count_in_range(t.deal))
 }

@@ -6,17 +6,14 @@ ghost use Rattle.model.specs.State.{same_vm};
 ghost use Rattle.model.specs.Row.{donates};
 ghost use Rattle.model.specs.Sound.{if_live, parties_differ, parties_below, no_donation_retrieved};
 
-use model::{Life, Transaction};
+use model::{Deal, Transaction};
 
 // Nobody deals with itself.
-#[tactic(auto, unfolding(model::specs::Sound::if_live))]
-fn two_parties(life: Life) -> bool
-    ensures { result ≡ if_live life (λ d. not (same_vm d.sender d.receiver)) }
+#[tactic(auto, unfolding(model::specs::Sound::if_live, model::specs::State::same_vm, isa::proofs::Tests::joined))]
+fn two_parties(deal: Option<Deal>) -> bool
+    ensures { result ≡ if_live deal (λ d. not (same_vm d.sender d.receiver)) }
 {
-    match life {
-        Life::Free => true,
-        Life::Live(d) => !parts::same_vm(d.sender, d.receiver),
-    }
+    deal.is_none_or(|d| d.sender != d.receiver)
 }
 
 // So for every handle.
@@ -24,18 +21,15 @@ fn two_parties(life: Life) -> bool
 pub fn parties_differ(transactions: &[Transaction; 16]) -> bool
     ensures { result ≡ parties_differ transactions.now }
 {
-    transactions.iter().all(|t| two_parties(t.life))
+    transactions.iter().all(|t| two_parties(t.deal))
 }
 
 // Both parties are among the n guests.
-#[tactic(auto, unfolding(model::specs::Sound::if_live))]
-fn both_below(n: u8, life: Life) -> bool
-    ensures { result ≡ if_live life (λ d. ltb d.sender.0 n and ltb d.receiver.0 n) }
+#[tactic(auto, unfolding(model::specs::Sound::if_live, model::specs::State::same_vm, isa::proofs::Tests::joined))]
+fn both_below(n: u8, deal: Option<Deal>) -> bool
+    ensures { result ≡ if_live deal (λ d. ltb d.sender.0 n and ltb d.receiver.0 n) }
 {
-    match life {
-        Life::Free => true,
-        Life::Live(d) => (d.sender.0 < n) & (d.receiver.0 < n),
-    }
+    deal.is_none_or(|d| (d.sender.0 < n) & (d.receiver.0 < n))
 }
 
 // So for every handle.
@@ -43,21 +37,15 @@ fn both_below(n: u8, life: Life) -> bool
 pub fn parties_below(n: u8, transactions: &[Transaction; 16]) -> bool
     ensures { result ≡ parties_below n transactions.now }
 {
-    transactions.iter().all(|t| both_below(n, t.life))
+    transactions.iter().all(|t| both_below(n, t.deal))
 }
 
 // A donation has no retrieved mark: retrieved, it is done with.
-#[tactic(auto, unfolding(model::specs::Sound::if_live))]
-fn no_retrieved_donation(life: Life) -> bool
-    ensures { result ≡ if_live life (λ d. not (donates d.kind and d.retrieved)) }
+#[tactic(auto, unfolding(model::specs::Sound::if_live, model::specs::State::same_vm, isa::proofs::Tests::joined))]
+fn no_retrieved_donation(deal: Option<Deal>) -> bool
+    ensures { result ≡ if_live deal (λ d. not (donates d.kind and d.retrieved)) }
 {
-    match life {
-        Life::Free => true,
-        Life::Live(d) => {
-            let kind = d.kind;
-            !(parts::donates(kind) & d.retrieved)
-        }
-    }
+    deal.is_none_or(|d| !(parts::donates(d.kind) & d.retrieved))
 }
 
 // So for every handle.
@@ -65,5 +53,5 @@ fn no_retrieved_donation(life: Life) -> bool
 pub fn no_donation_retrieved(transactions: &[Transaction; 16]) -> bool
     ensures { result ≡ no_donation_retrieved transactions.now }
 {
-    transactions.iter().all(|t| no_retrieved_donation(t.life))
+    transactions.iter().all(|t| no_retrieved_donation(t.deal))
 }

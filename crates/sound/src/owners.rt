@@ -4,17 +4,14 @@ ghost use Rattle.std.specs.Prelude.{◌≡◌, ◌≤◌, ltb};
 ghost use Rattle.model.specs.Constants.{PAGES};
 ghost use Rattle.model.specs.Sound.{if_owned, owners_below};
 
-use model::{Owner, PageRecord};
+use model::{PageRecord, VmId};
 
 // The owner, if there is one, is among the n guests.
 #[tactic(auto, unfolding(model::specs::Sound::if_owned))]
-fn owner_below(n: u8, owner: Owner) -> bool
+fn owner_below(n: u8, owner: Option<VmId>) -> bool
     ensures { result ≡ if_owned owner (λ g. ltb g.0 n) }
 {
-    match owner {
-        Owner::Nobody => true,
-        Owner::Guest(g) => g.0 < n,
-    }
+    owner.is_none_or(|g| g.0 < n)
 }
 
 // So for every page.

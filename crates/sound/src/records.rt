@@ -1,7 +1,6 @@
 // The records that the table asks for, and whether the machine's are these.
 
-ghost use Rattle.std.specs.Prelude.{◌≡◌, true, ℕ, ◌≤◌, ◌<◌, length};
-ghost use Rattle.model.specs.declared.Owner.TheVariants.{Nobody};
+ghost use Rattle.std.specs.Prelude.{◌≡◌, true, None, ℕ, ◌≤◌, ◌<◌, length};
 ghost use Rattle.model.specs.Constants.{GUESTS, PAGES, HANDLES};
 ghost use Rattle.model.specs.State.{page, record_at};
 ghost use Rattle.model.specs.Due.{due_in, due};
@@ -9,7 +8,7 @@ ghost use Rattle.model.specs.Sound.{page_counts_in_range, mailboxes_below, owner
 ghost use Rattle.sound.specs.Rows.{free_rows, Held, held_rows, box_rows, Usable};
 
 use crate::pages::{set_box, set_held};
-use model::{Life, Machine, Mailbox, Owner, PageRecord, Transaction, VmId};
+use model::{Machine, Mailbox, PageRecord, Transaction, VmId};
 
 // Each of the m pages by its owner, as if it were used for nothing.
 #[tactic(auto, unfolding(crate::specs::Rows::free_rows, model::specs::State::record_at))]
@@ -29,11 +28,11 @@ fn free_rows(n: u8, m: u8, records: &[PageRecord; 64]) -> [PageRecord; 64]
 #[tactic(auto, unfolding(model::specs::Due::due_in, model::specs::Sound::if_owned))]
 fn held_row(t: &Transaction) -> PageRecord
     requires { Held t.now }
-    ensures { result ≡ due_in t.now.life Nobody }
+    ensures { result ≡ due_in t.now.deal None }
 {
-    match t.life {
-        Life::Free => parts::free_row(Owner::Nobody),
-        Life::Live(d) => parts::row(d),
+    match t.deal {
+        None => parts::free_row(None),
+        Some(d) => parts::row(d),
     }
 }
 

@@ -1,6 +1,5 @@
 -- `sound::places::pages_no_mailbox` meets its contract: it asks of the pages of each transaction that none has a mark, and the marked pages are the mailboxes'.
-use Rattle.std.proofs.Common.{rules}
-use Rattle.std.proofs.Common.{◌∙◌, not, sym}
+use Rattle.std.proofs.Common.{rules, ◌∙◌, not, sym}
 use Rattle.std.proofs.lemmas.Iterator.{YieldsList-from_slice}
 use Rattle.std.proofs.lemmas.Iterator.Adapters.{serves_from_places}
 use borrow.Author.Tests.{tests}
