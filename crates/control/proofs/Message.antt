@@ -1,4 +1,4 @@
--- What Send's tests come to, once R1 has named a guest.
+-- What Send's tests come to, where R1 names a guest.
 use Prim.Native.Nat.{ℕ, ◌≤◌}
 use mathlib.Core.Path.{◌≡◌, refl}
 use mathlib.Core.Bool.{Bool, true, false, not}
@@ -16,23 +16,21 @@ use Rattle.model.specs.Send.{send_to, send_length, send_verdict}
 use Rattle.parts.specs.Numbers.{vm_of}
 use Rattle.parts.proofs.Named.{vm_found}
 
--- whom R1 names, as it is read and then looked up
-pub word_named : (m : Machine) {read : ℕ} {found : Option VmId} {g : VmId} → read ≡ argument m 1 → found ≡ vm_of read m.n
-    → found ≡ Some g → vm_of (argument m 1) m.n ≡ Some g
-word_named m read look is = rw (← read, ← look) is
-
 not_empty : (inbox : Option Message) → is_empty inbox ≡ not (is_some inbox)
 unfolding is_empty
 not_empty None = refl
 not_empty (Some message) = refl
 
-module _ (m : Machine) {g : VmId} (named : vm_of (argument m 1) m.n ≡ Some g) {own : Bool} (test : own ≡ same_vm g m.current) where
+-- R1 is read, and names guest g; then it is asked whether that is the caller
+module _ (m : Machine) {read : ℕ} {found : Option VmId} {g : VmId} {own : Bool}
+    (argued : read ≡ argument m 1) (looked : found ≡ vm_of read m.n) (is : found ≡ Some g) (test : own ≡ same_vm g m.current) where
   -- the tests that are left
   rest : send_verdict m
       ≡ need (not own) INVALID
       (need (leb 1 (argument m 2) and leb (argument m 2) PAGE) INVALID (need (not (is_some (inbox_at m.inboxes g))) BUSY passes))
   unfolding send_verdict send_to send_length is_other ◌and◌
   rest =
+      let named : vm_of (argument m 1) m.n ≡ Some g = rw (← argued, ← looked) is in
       let guest = vm_found (argument m 1) m.n named in
       rw (guest.1, guest.0, test, not_empty)
 
@@ -40,12 +38,17 @@ module _ (m : Machine) {g : VmId} (named : vm_of (argument m 1) m.n ≡ Some g) 
   unfolding need
   to_itself e = rw (rest, e)
 
-  -- the receiver is another guest, and the length is in range
-  module _ (other : own ≡ false) (some : 1 ≤ argument m 2) (fits : argument m 2 ≤ PAGE) where
-    pub to_busy : is_some (inbox_at m.inboxes g) ≡ true → refused BUSY ≡ send_verdict m
+  -- the receiver is another guest, and the length is in range; then it is asked whether its inbox is full
+  module _ (other : own ≡ false) (some : 1 ≤ argument m 2) (fits : argument m 2 ≤ PAGE)
+      {inbox : Option Message} {full : Bool} (there : inbox ≡ inbox_at m.inboxes g) (asked : full ≡ is_some inbox) where
+    last : send_verdict m ≡ need (not full) BUSY passes
     unfolding need ◌and◌
-    to_busy e = rw (rest, other, le-leb 1 _ some, le-leb (argument m 2) PAGE fits, e)
+    last = rw (rest, other, le-leb 1 _ some, le-leb (argument m 2) PAGE fits, asked, there)
 
-    pub to_free : is_some (inbox_at m.inboxes g) ≡ false → passes ≡ send_verdict m
-    unfolding need ◌and◌
-    to_free e = rw (rest, other, le-leb 1 _ some, le-leb (argument m 2) PAGE fits, e)
+    pub to_busy : full ≡ true → refused BUSY ≡ send_verdict m
+    unfolding need
+    to_busy e = rw (last, e)
+
+    pub to_free : full ≡ false → passes ≡ send_verdict m
+    unfolding need
+    to_free e = rw (last, e)

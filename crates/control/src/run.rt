@@ -10,7 +10,7 @@ use model::{Machine, VmId};
 use parts::{Refusal, numbers, reply};
 
 // The guest that is to run, if the tests pass, in their order: guest 0 asks, and R1 names another guest.
-#[tactic(auto, using(parts::proofs::Answers::caller_below, parts::proofs::Named::vm_found, parts::proofs::Named::no_vm), unfolding(crate::proofs::Control::answering, isa::proofs::Tests::joined, model::specs::Run::run_verdict, model::specs::State::is_primary, model::specs::State::same_vm))]
+#[tactic(auto, using(parts::proofs::Named::vm_found, parts::proofs::Named::no_vm), unfolding(crate::proofs::Control::answering, isa::proofs::Tests::joined, model::specs::Run::run_verdict, model::specs::State::is_primary, model::specs::State::same_vm))]
 fn next_guest(machine: Machine) -> Result<VmId, Refusal>
     requires { sound machine ≡ true }
     ensures verdict { verdict_of result ≡ run_verdict machine }

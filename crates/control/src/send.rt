@@ -50,7 +50,7 @@ fn delivered(machine: Machine, receiver: VmId, words: u32) -> Machine
 }
 
 // Guest 0 is current. If a secondary called, it learns of the message, from whom and for whom.
-#[tactic(auto, unfolding(model::specs::Reply::handed_over, model::specs::Reply::told, model::specs::Reply::woken, model::specs::Send::notified))]
+#[tactic(auto, unfolding(model::specs::Reply::handed_over, model::specs::Reply::woken, model::specs::Send::notified))]
 fn notified(machine: Machine, receiver: VmId) -> Machine
     ensures { result ≡ notified machine receiver }
 {
