@@ -3,7 +3,7 @@
 use Rattle.std.specs.Prelude.{Option, None, Some, is_some}
 use Rattle.model.specs.declared.Message.{Message}
 use Prim.Native.Nat.{ℕ, zero, suc, ◌≤◌, ◌<◌}
-use Rattle.std.proofs.lemmas.Option.{cond_some}
+use Rattle.image.proofs.Cutting.{cut_whole}
 use mathlib.Core.Path.{◌≡◌, refl, sym, ap, ◌∙◌}
 use mathlib.Core.Bool.{Bool, true, false, cond, true≢false, false≢true}
 use mathlib.Core.List.{List}
@@ -12,7 +12,7 @@ use native.Mathlib.Decide.{ℕ_discrete}
 use native.Mathlib.Omega.{arith}
 use lib.ListN.{length, set, replicate, length-set, get_or-replicate}
 use lib.Dec.{eqb}
-use borrow.Author.Tests.{leb-true, eq-eqb, ne_eqb, not-true}
+use borrow.Author.Tests.{eq-eqb, ne_eqb, not-true}
 use Rattle.isa.proofs.Tests.{not_both, and_left, and_right, or_either, or_left, or_right, or_false_left, or_false_right}
 use Rattle.model.specs.declared.VmId.{VmId}
 use Rattle.model.specs.declared.PageId.{PageId}
@@ -43,7 +43,7 @@ use Rattle.image.specs.declared.Content.{Content}
 use Rattle.image.specs.declared.Content.TheVariants.{Counts, Described, Owned, Words, Budget}
 use Rattle.image.specs.declared.Draft.{Draft}
 use Rattle.image.specs.declared.Image.{Image}
-use Rattle.image.specs.Pieces.{image_kinds, record_from, end_of, cut}
+use Rattle.image.specs.Pieces.{image_kinds, end_of, cut}
 use Rattle.image.specs.Drafts.{begun, unused, describable, ownable, complete, fits, is_counts, may_stand, with_pc, with_counts, with_guest, with_owner, with_budget, taken}
 use Rattle.image.specs.Judging.{Judged, Turn, stops, goes_on, broken, good, with_budget_read, at_end, heard, tried, turn, follow, judged_from, judged_of}
 
@@ -472,21 +472,10 @@ drafted_next at next d content (behind later c) further e =
     let ask = standing at d content e in
     behind further (drawn_more d content c ask.going (sym ask.first_only ∙ ne_eqb _ _ later) ask.fitting)
 
--- A record that is cut out ends inside the image, and behind where it starts.
-
-pub record CutOut (bytes : List ℕ) (at : ℕ) (r : Record) : Type 0 where
-  pub inside : end_of r ≤ length bytes
-  pub further : end_of r ≡ 0 → ⊥
-
-ends_further : (bytes : List ℕ) (at : ℕ) → end_of (record_from bytes at) ≡ 0 → ⊥
-unfolding end_of record_from
-ends_further bytes at e = omega arith
-
-pub cut_out : (bytes : List ℕ) (at : ℕ) (r : Record) → cut image_kinds bytes at ≡ Some r → CutOut bytes at r
-unfolding cut
-cut_out bytes at r e =
-    let known = cond_some _ (record_from bytes at) r e in
-    rw (← known.1) (record { inside = leb-true _ _ (and_left _ _ known.0); further = ends_further bytes at })
+-- a record ends behind where it starts
+ends_further : (bytes : List ℕ) (at : ℕ) (r : Record) → cut image_kinds bytes at ≡ Some r → end_of r ≡ 0 → ⊥
+unfolding end_of
+ends_further bytes at r here e = omega (arith, cut_whole image_kinds bytes at here)
 
 -- The machine of a good image: what is known of its draft, and that every guest is described.
 pub record Built (m : Machine) : Type 0 where
@@ -542,6 +531,6 @@ judged_built bytes =
     (record {
       ends = λ at d c. end_built at d c _ refl;
       breaks = λ at d c. not_built at;
-      goes = λ at d r content c here stands. drafted_next at (end_of r) d content c (cut_out bytes at r here).further stands;
+      goes = λ at d r content c here stands. drafted_next at (end_of r) d content c (ends_further bytes at r here) stands;
     })
     (length bytes) 0 begun (before refl refl)

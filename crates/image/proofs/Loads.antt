@@ -31,7 +31,8 @@ use Rattle.image.specs.Laying.{words_laid, content_laid, record_laid, piece_laid
 use Rattle.image.specs.Loading.{Put, loaded_into, loaded_by, load_of}
 use Rattle.image.specs.Loads.{LoadedPasses, Fresh, LoadedFresh, BadOffsetInside}
 use Rattle.image.specs.Loads.{Checked, done, wrong_memory, broken_image, Untouched, LoadAnswers}
-use Rattle.image.proofs.Drafting.{Built, cut_out, judged_along, judged_built}
+use Rattle.image.proofs.Cutting.{cut_whole}
+use Rattle.image.proofs.Drafting.{Built, judged_along, judged_built}
 use Rattle.image.proofs.Sounding.{built_sound}
 
 -- What a load answers, by the verdict and by whether the memory fits.
@@ -120,7 +121,7 @@ bad_offset_inside bytes =
     (record {
       ends = λ at d inside. end_inside bytes at d.machine d.budget inside;
       breaks = λ at d inside. break_inside bytes at inside;
-      goes = λ at d r content inside here stands. (cut_out bytes at r here).inside;
+      goes = λ at d r content inside here stands. (cut_whole image_kinds bytes at here).1;
     })
     (length bytes) 0 begun (omega arith)
 
