@@ -35,15 +35,16 @@ pub cut_inside : (bytes : List ℕ) (at : ℕ) {piece : Option Record} {r : Reco
 unfolding end_of
 cut_inside bytes at is whole = cut_whole image_kinds bytes at (sym is ∙ whole)
 
--- An option that is asked by `ok_or(..)?`: what goes on was in it, or there was nothing, and the error is the one that was given.
+-- An option that is asked by `ok_or(..)?`: what goes on was in it; or there was nothing, and the function leaves with the error
+-- that was given.
 
 pub had : {A E : Type 0} {o : Option A} {told : Result A E} {x : A} → o ≡ result_ok told → told ≡ Ok x → o ≡ Some x
 had part ok = part ∙ ap result_ok ok
 
-pub lacked : {A E : Type 0} (o : Option A) (e : E) {told : Result A E} {x : E} → told ≡ ok_or o e → told ≡ Err x
-    → (o ≡ None) × (x ≡ e)
-lacked None e asked err = (refl, cc)
-lacked (Some a) e asked err = cc
+pub lacked : {A T E : Type 0} (o : Option A) (e : E) {told : Result A E} {x : E} {left whole : Result T E}
+    → told ≡ ok_or o e → told ≡ Err x → left ≡ Err x → (o ≡ None → Err e ≡ whole) → left ≡ whole
+lacked None e {told} asked err leaves none = let it = none refl in cc
+lacked (Some a) e asked err leaves none = cc
 
 -- The ways out at the end of an image: no budget was read, or one was.
 
