@@ -30,6 +30,7 @@ use Rattle.std.proofs.lemmas.Iterator.Search.{all_from_yields_List}
 use Rattle.std.proofs.lemmas.List.{take_all}
 use Rattle.std.proofs.lemmas.List.Folds.{list_all_more}
 use Rattle.std.proofs.Math.Nat.{le_of_eq}
+use Rattle.std.proofs.Math.ListN.{get_or-eq_default}
 use Rattle.std.specs.Prelude.{◌&&◌}
 use Rattle.isa.specs.Tests.{◌and◌, ◌or◌}
 use Rattle.isa.proofs.Tests.{not_both, cannot_pass, and_intro, or_left}
@@ -94,12 +95,33 @@ pub every_listed : {A : Type 0} (d : A) (p : A → Bool) (xs : List A) {n : ℕ}
     → list_all p xs ≡ every n (λ k. p (get_or xs k d))
 every_listed d p xs e = ap (list_all p) (sym (take_all _ xs (le_of_eq e))) ∙ every_taken d p xs _ (le_of_eq (sym e))
 
--- those from the n-th on
 and_passed : (a : Bool) → a and true ≡ a
 unfolding ◌and◌
 and_passed true = refl
 and_passed false = refl
 
+every_past : (m n : ℕ) (f : ℕ → Bool) → m ≤ n → ((k : ℕ) → m ≤ k → f k ≡ true) → every n f ≡ every m f
+unfolding every
+every_past m zero f h past = let none : m ≡ 0 = omega arith in rw none
+every_past m (suc n) f h past =
+    elim (dec_lt n m) [
+      | yes b ↦ let whole : m ≡ suc n = omega arith in rw whole
+      | no b ↦ rw (past n (omega arith), every_past m n f (omega arith) past) (and_passed _)
+    ]
+
+-- the first n, or all of them if there are fewer, where what is read past the end passes
+pub every_among : {A : Type 0} (d : A) (p : A → Bool) (xs : List A) (n : ℕ) → p d ≡ true
+    → list_all p (take n xs) ≡ every n (λ k. p (get_or xs k d))
+every_among d p xs n passes =
+    elim (dec_lt (length xs) n) [
+      | yes b ↦
+          ap (list_all p) (take_all n xs (omega arith))
+          ∙ every_listed d p xs refl
+          ∙ sym (every_past (length xs) n _ (omega arith) (λ k out. ap p (get_or-eq_default xs d out) ∙ passes))
+      | no b ↦ every_taken d p xs n (omega arith)
+    ]
+
+-- those from the n-th on
 or_second : {a : Bool} (b : Bool) → a ≡ false → a or b ≡ b
 unfolding ◌or◌
 or_second b e = rw e
@@ -154,6 +176,15 @@ pub all_taken :
 all_taken n test d xs u ran here first asks few =
     all_from_yields_List test u _ _ ran (YieldsList-from_take n (YieldsList-from_slice xs here) first) asks ∙ every_taken d test xs n few
 
+-- and where a place behind the end passes
+pub all_among :
+    {A F : Type 0} {g : Mut F (Bor A × Unit {0}) Bool} {s : Take (Iter A)} {f : F} {r : Bool} (n : ℕ) (test : A → Bool) (d : A)
+    (xs : List A) (u : Take (Iter A)) → ChecksAll (take_steps fronts) g s f r u → iter_rest (take_source s) ≡ xs → take_count s ≡ n →
+    ((x : Bor A) (b : Bool) (q : F) → Called g f (x, tt) b q → (q ≡ f) × (b ≡ test x.now)) → test d ≡ true →
+    r ≡ every n (λ k. test (get_or xs k d))
+all_among n test d xs u ran here first asks passes =
+    all_from_yields_List test u _ _ ran (YieldsList-from_take n (YieldsList-from_slice xs here) first) asks ∙ every_among d test xs n passes
+
 -- `xs.iter().skip(n).all(test)`
 pub all_skipped :
     {A F : Type 0} {g : Mut F (Bor A × Unit {0}) Bool} {s : Skip (Iter A)} {f : F} {r : Bool} {m : ℕ} (n : ℕ) (test : A → Bool)
@@ -195,15 +226,32 @@ every_taken_zip d e p xs ys n few h =
     every_taken (d, e) p (zip xs ys) n (omega (arith, length_zip xs ys h))
     ∙ every_same n _ _ (λ k b. ap p (get_or_zip xs ys k d e (omega arith) h))
 
-pub every_numbered : {A : Type 0} (d : A) (p : ℕ × A → Bool) (xs : List A) (n : ℕ) → n ≤ length xs
+numbered_all : {A : Type 0} (d : A) (p : ℕ × A → Bool) (xs : List A) (n : ℕ) → n ≤ length xs
     → list_all p (zip (range_with_len 0 n) xs) ≡ every n (λ k. p (k, get_or xs k d))
-every_numbered d p xs n few =
+numbered_all d p xs n few =
     let numbers : length (range_with_len 0 n) ≡ n = length-range_with_len 0 n in
     let fits : length (range_with_len 0 n) ≤ length xs = omega arith in
     every_listed (0, d) p (zip (range_with_len 0 n) xs) (length_zip _ xs fits ∙ numbers)
     ∙ every_same n _ _ (λ k b.
     let number : get_or (range_with_len 0 n) k 0 ≡ k = get_or-range_with_len 0 n k 0 b ∙ omega arith in
     ap p (get_or_zip (range_with_len 0 n) xs k 0 d (omega arith) fits ∙ rw number))
+
+numbers_left : {A : Type 0} (a n : ℕ) (xs : List A) → length xs ≤ n → zip (range_with_len a n) xs ≡ zip (range_with_len a (length xs)) xs
+numbers_left a zero [] h = refl
+numbers_left a (suc n) [] h = refl
+numbers_left a zero (x ∷ xs) h = absurd (omega arith)
+numbers_left a (suc n) (x ∷ xs) h = ap (λ l. (a, x) ∷ l) (numbers_left (a + 1) n xs (le_of_suc-le-suc h))
+
+pub every_numbered : {A : Type 0} (d : A) (p : ℕ × A → Bool) (xs : List A) (n : ℕ) → ((k : ℕ) → p (k, d) ≡ true)
+    → list_all p (zip (range_with_len 0 n) xs) ≡ every n (λ k. p (k, get_or xs k d))
+every_numbered d p xs n passes =
+    elim (dec_lt (length xs) n) [
+      | yes b ↦
+          ap (list_all p) (numbers_left 0 n xs (omega arith))
+          ∙ numbered_all d p xs (length xs) (omega arith)
+          ∙ sym (every_past (length xs) n _ (omega arith) (λ k out. ap (λ x. p (k, x)) (get_or-eq_default xs d out) ∙ passes k))
+      | no b ↦ numbered_all d p xs n (omega arith)
+    ]
 
 pub every_dropped_three : {A B C : Type 0} (d : A) (e : B) (f : C) (p : (A × B) × C → Bool) (xs : List A) (ys : List B) (zs : List C)
     (n : ℕ) {m : ℕ} → length xs ≡ m → length ys ≡ m → length zs ≡ m

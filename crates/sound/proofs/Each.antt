@@ -3,7 +3,7 @@
 use Rattle.std.specs.Prelude.{Option, None, Some}
 use Rattle.model.specs.declared.Message.{Message}
 use Prim.Native.Nat.{ℕ, suc, ◌≤◌, ◌<◌}
-use mathlib.Core.Path.{◌≡◌, sym, ◌∙◌}
+use mathlib.Core.Path.{◌≡◌, refl, sym, ◌∙◌}
 use mathlib.Core.Bool.{Bool, true, not, ◌&&◌, ◌||◌}
 use mathlib.Core.List.{List}
 use native.Mathlib.Omega.{arith}
@@ -29,7 +29,7 @@ use Rattle.model.specs.State.{vm, page, same_vm, handle, transaction_at, page_at
 use Rattle.model.specs.Sound.{if_owned, if_live, if_full, blank_guest, each_deal, each_page, each_message, page_counts_in_range}
 use Rattle.model.proofs.Tests.{every_at, every_same}
 use Rattle.parts.specs.Reached.{Reached}
-use Rattle.parts.proofs.Loops.{all_listed, all_taken, all_adjacent}
+use Rattle.parts.proofs.Loops.{all_listed, all_among, all_adjacent}
 use lib.Seq.{get_or-take}
 use Rattle.std.proofs.lemmas.List.{get_or_read_under}
 use Rattle.std.specs.List.{IsAllAdjacentAnswer}
@@ -38,21 +38,12 @@ use Rattle.model.specs.declared.Mailbox.{Mailbox}
 use Rattle.model.specs.declared.PageId.{PageId}
 use Rattle.model.specs.Tests.{every, ascending}
 
--- the code's `|` is the model's `or`
-pub asked_or : (a : Bool) {r t : Bool} → r ≡ t → (a || r) ≡ (a or t)
-unfolding ◌or◌
-asked_or a asked = rw asked
-
--- and its `&` the model's `and`
+-- the code's `&` is the model's `and`
 pub asked_and : (a : Bool) {r t : Bool} → r ≡ t → (r && a) ≡ (t and a)
 unfolding ◌and◌
 asked_and a asked = rw asked
 
--- a test of an owner, of a transaction: the code has found a guest, a deal, and tests it
-pub owned_asked : {owner : Option VmId} {g : VmId} (f : VmId → Bool) {r : Bool} → owner ≡ Some g → r ≡ f g → r ≡ if_owned owner f
-unfolding if_owned
-owned_asked f e asked = rw e asked
-
+-- a test of a transaction: the code has found a deal, and tests it
 pub live_asked : {life : Option Deal} {d : Deal} (f : Deal → Bool) {r : Bool} → life ≡ Some d → r ≡ f d → r ≡ if_live life f
 unfolding if_live
 live_asked f e asked = rw e asked
@@ -91,9 +82,9 @@ pub all_messages :
     {F : Type 0} {g : Mut F (Bor (Option Message) × Unit {0}) Bool} {s : Take (Iter (Option Message))} {f : F} {r : Bool} {n : ℕ} {inboxes : List (Option Message)}
     (test : ℕ → VmId → Bool) (u : Take (Iter (Option Message))) → ChecksAll (take_steps fronts) g s f r u → iter_rest (take_source s) ≡ inboxes → take_count s ≡ n →
     ((x : Bor (Option Message)) (b : Bool) (q : F) → Called g f (x, tt) b q → (q ≡ f) × (b ≡ if_full x.now test)) →
-    n ≤ length inboxes → r ≡ each_message n inboxes (λ g. test)
-unfolding each_message inbox_at
-all_messages test u ran here first asks few = all_taken _ (λ x. if_full x test) _ _ u ran here first asks few
+    r ≡ each_message n inboxes (λ g. test)
+unfolding each_message inbox_at if_full
+all_messages test u ran here first asks = all_among _ (λ x. if_full x test) _ _ u ran here first asks refl
 
 -- Lists side by side: what each guest has, its message with its number.
 

@@ -24,7 +24,7 @@ use model::Machine;
 
 // Everything that stands for a guest or a page, but for the current guest and the messages' senders, is in range.
 fn in_range(machine: &Machine) -> bool
-    requires { (machine.now.n ≤ GUESTS) × (machine.now.m ≤ PAGES) × (page_counts_in_range machine.now.transactions ≡ true) }
+    requires { (machine.now.n ≤ GUESTS) × (page_counts_in_range machine.now.transactions ≡ true) }
     ensures { result ≡ (mailboxes_below machine.now.n machine.now.m machine.now.mailboxes and owners_below machine.now.n machine.now.m machine.now.records and parties_below machine.now.n machine.now.transactions and pages_below machine.now.m machine.now.transactions) }
 {
     mailboxes::mailboxes_below(machine.n, machine.m, &machine.mailboxes)
@@ -45,7 +45,6 @@ fn uses_differ(machine: &Machine) -> bool
 
 // The waiting messages.
 fn messages_sound(machine: &Machine) -> bool
-    requires { machine.now.n ≤ GUESTS }
     ensures { result ≡ (lengths_in_range machine.now.n machine.now.inboxes and senders_below machine.now.n machine.now.inboxes and no_own_sender machine.now.n machine.now.inboxes) }
 {
     messages::lengths_in_range(machine.n, &machine.inboxes)

@@ -1,8 +1,8 @@
 // The waiting messages of the n guests: their lengths, and who sent them.
 
-ghost use Rattle.std.specs.Prelude.{◌≡◌, not, ◌≤◌, ltb, leb};
+ghost use Rattle.std.specs.Prelude.{◌≡◌, not, ltb, leb};
 ghost use Rattle.isa.specs.Tests.{◌and◌};
-ghost use Rattle.model.specs.Constants.{PAGE, GUESTS};
+ghost use Rattle.model.specs.Constants.{PAGE};
 ghost use Rattle.model.specs.State.{same_vm};
 ghost use Rattle.model.specs.Sound.{if_full, lengths_in_range, senders_below, no_own_sender};
 
@@ -19,7 +19,6 @@ fn length_in_range(inbox: Option<Message>) -> bool
 // So for every guest.
 #[tactic(auto, unfolding(model::specs::Sound::each_message, model::specs::State::inbox_at, model::specs::Sound::lengths_in_range))]
 pub fn lengths_in_range(n: u8, inboxes: &[Option<Message>; 8]) -> bool
-    requires { n ≤ GUESTS }
     ensures { result ≡ lengths_in_range n inboxes.now }
 {
     inboxes
@@ -39,7 +38,6 @@ fn sender_below(n: u8, inbox: Option<Message>) -> bool
 // So for every guest.
 #[tactic(auto, unfolding(model::specs::Sound::each_message, model::specs::State::inbox_at, model::specs::Sound::senders_below))]
 pub fn senders_below(n: u8, inboxes: &[Option<Message>; 8]) -> bool
-    requires { n ≤ GUESTS }
     ensures { result ≡ senders_below n inboxes.now }
 {
     inboxes
@@ -59,7 +57,6 @@ fn not_own_sender(g: VmId, inbox: Option<Message>) -> bool
 // So for every guest.
 #[tactic(auto, unfolding(model::specs::Sound::each_message, model::specs::State::inbox_at, model::specs::Sound::no_own_sender))]
 pub fn no_own_sender(n: u8, inboxes: &[Option<Message>; 8]) -> bool
-    requires { n ≤ GUESTS }
     ensures { result ≡ no_own_sender n inboxes.now }
 {
     (0..n)

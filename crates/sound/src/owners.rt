@@ -1,7 +1,6 @@
 // The owners of the m pages are guests.
 
-ghost use Rattle.std.specs.Prelude.{◌≡◌, ◌≤◌, ltb};
-ghost use Rattle.model.specs.Constants.{PAGES};
+ghost use Rattle.std.specs.Prelude.{◌≡◌, ltb};
 ghost use Rattle.model.specs.Sound.{if_owned, owners_below};
 
 use model::{PageRecord, VmId};
@@ -17,7 +16,6 @@ fn owner_below(n: u8, owner: Option<VmId>) -> bool
 // So for every page.
 #[tactic(auto, unfolding(model::specs::Sound::owners_below, model::specs::State::record_at))]
 pub fn owners_below(n: u8, m: u8, records: &[PageRecord; 64]) -> bool
-    requires { m ≤ PAGES }
     ensures { result ≡ owners_below n m records.now }
 {
     records

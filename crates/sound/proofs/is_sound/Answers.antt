@@ -14,7 +14,7 @@ pub in_range-requires : goal.in_range-requires
 in_range-requires c =
     let m = c.args.machine.now in
     let counted : Counts m ≡ true = both_are c.counts_in_range.ensures c.page_counts_in_range.ensures ∙ c.if-not-counts_in_range-page_counts_in_range.false in
-    (few_guests m counted, few_pages m counted, page_counts_known m counted)
+    (few_guests m counted, page_counts_known m counted)
 
 pub returns-then-not-in_range : goal.returns-then-not-in_range
 returns-then-not-in_range c =
@@ -35,12 +35,6 @@ returns-then-not-uses_differ c =
     let counted : Counts m ≡ true = both_are c.counts_in_range.ensures c.page_counts_in_range.ensures ∙ c.if-not-counts_in_range-page_counts_in_range.false in
     let ranged : Ranges m ≡ true = sym c.in_range.ensures ∙ c.if-not-in_range.false in
     uses_stop m counted ranged (sym c.uses_differ.ensures ∙ c.if-not-uses_differ.true)
-
-pub messages_sound-requires : goal.messages_sound-requires
-messages_sound-requires c =
-    let m = c.args.machine.now in
-    let counted : Counts m ≡ true = both_are c.counts_in_range.ensures c.page_counts_in_range.ensures ∙ c.if-not-counts_in_range-page_counts_in_range.false in
-    few_guests m counted
 
 pub records_due-requires : goal.records_due-requires
 records_due-requires c =

@@ -7,4 +7,4 @@ use Rattle.sound.proofs.messages.lengths_in_range.Goals as goal
 
 pub returns : goal.returns
 unfolding lengths_in_range
-returns c = all_messages _ _ c.all.ensures.ran (cc) (cc) (λ x b q k. search (rules, tests)) (search rules)
+returns c = all_messages _ _ c.all.ensures.ran (cc) (cc) (λ x b q k. search (rules, tests))
