@@ -4,7 +4,7 @@ use Rattle.std.specs.Prelude.{Option, None, Some}
 use Rattle.model.specs.declared.Message.{Message}
 use Prim.Native.Nat.{ℕ, suc, ◌≤◌, ◌<◌}
 use mathlib.Core.Path.{◌≡◌, refl, sym, ◌∙◌}
-use mathlib.Core.Bool.{Bool, true, not, ◌&&◌, ◌||◌}
+use mathlib.Core.Bool.{Bool, true, not, ◌&&◌}
 use mathlib.Core.List.{List}
 use native.Mathlib.Omega.{arith}
 use lib.Dec.{leb, ltb}
@@ -19,14 +19,14 @@ use Rattle.std.specs.declared.slice.Iter.{Iter}
 use Rattle.std.specs.declared.iter.Take.{Take}
 use Rattle.std.proofs.iter.Yields.{fronts}
 use borrow.Author.Tests.{leb-true}
-use Rattle.isa.specs.Tests.{◌and◌, ◌or◌}
+use Rattle.isa.specs.Tests.{◌and◌}
 use Rattle.isa.proofs.Tests.{and_right}
 use Rattle.model.specs.declared.VmId.{VmId}
 use Rattle.model.specs.declared.Deal.{Deal}
 use Rattle.model.specs.declared.Transaction.{Transaction}
 use Rattle.model.specs.Constants.{PAGES, HANDLES, PLACES}
 use Rattle.model.specs.State.{vm, page, same_vm, handle, transaction_at, page_at, inbox_at, count_in, count_of}
-use Rattle.model.specs.Sound.{if_owned, if_live, if_full, blank_guest, each_deal, each_page, each_message, page_counts_in_range}
+use Rattle.model.specs.Sound.{if_live, if_full, blank_guest, each_deal, each_page, each_message, page_counts_in_range}
 use Rattle.model.proofs.Tests.{every_at, every_same}
 use Rattle.parts.specs.Reached.{Reached}
 use Rattle.parts.proofs.Loops.{all_listed, all_among, all_adjacent}

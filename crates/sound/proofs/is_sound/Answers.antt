@@ -2,7 +2,7 @@
 -- fails.
 use Rattle.std.proofs.Common.{sym, true, ◌∙◌, ◌≡◌}
 use Rattle.isa.specs.Tests.{◌and◌}
-use Rattle.sound.proofs.Whole.{Counts, Ranges, Uses, both_are, counts_stop, few_guests, few_pages, mailboxes_in_reach, page_counts_known, pages_in_reach, ranges_stop, rest_decides, usable, uses_stop}
+use Rattle.sound.proofs.Whole.{Counts, Ranges, Uses, both_are, counts_stop, few_guests, mailboxes_in_reach, page_counts_known, pages_in_reach, ranges_stop, rest_decides, usable, uses_stop}
 use Rattle.sound.proofs.is_sound.Goals as goal
 
 pub returns-then-not-counts_in_range-page_counts_in_range : goal.returns-then-not-counts_in_range-page_counts_in_range
