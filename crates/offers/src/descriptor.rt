@@ -1,64 +1,45 @@
 // The descriptor of a sending, in the caller's TX page: its length, then kind and receiver, then the bases of the pages.
 
-ghost use Rattle.std.specs.Prelude.{◌≡◌, true, ℕ, ◌+◌, ◌%◌, ◌≤◌, ◌<◌, length, get_or, eqb};
+ghost use Rattle.std.specs.Prelude.{◌≡◌, ℕ, ◌+◌, ◌%◌, ◌≤◌, is_some, IfSome, get_or, eqb};
 ghost use Rattle.isa.specs.Tests.{◌and◌};
-ghost use Rattle.model.specs.Constants.{GUESTS, PAGES, PLACES};
+ghost use Rattle.model.specs.Constants.{PLACES};
 ghost use Rattle.model.specs.Tests.{every, ascending};
-ghost use Rattle.model.specs.State.{page, record_at};
-ghost use Rattle.model.specs.Row.{kind_number, owned_row, same_record};
+ghost use Rattle.model.specs.Row.{kind_number};
 ghost use Rattle.model.specs.Sending.{is_base};
 ghost use Rattle.offers.specs.Descriptor.{Words, base_in, pages_in, well_formed, Read};
 
-use model::{Kind, Machine, PageId, PageRecord, VmId};
-use parts::numbers::{SomePage, SomeVm};
-use parts::{numbers, pages};
+use model::{Kind, Machine, PageId, VmId};
+use parts::numbers;
 
-// The pages that a descriptor names, and whether each of them is one.
-#[derive(Clone, Copy)]
-struct Listed {
-    pub good: bool,
-    pub pages: [PageId; 8],
-}
-
-// What a descriptor asks for, if it is a good one.
+// What a good descriptor asks for.
 #[derive(Clone, Copy)]
 pub struct Proposal {
-    pub good: bool,
     pub receiver: VmId,
     pub count: u8,
     pub pages: [PageId; 8],
 }
 
 // Word 0 is the length, and the kind this call's.
+#[tactic(auto, unfolding(isa::proofs::Tests::joined))]
 fn header_fits(kind: Kind, length: u32, tx: &[u32]) -> bool
     requires { Words tx.now }
     ensures { result ≡ (eqb (get_or tx.now 0 0) length and eqb (get_or tx.now 1 0 % 65536) (kind_number kind)) }
 {
-    (tx[0] == length) & (tx[1] % 65536 == parts::kind_number(kind))
+    tx[0] == length && tx[1] % 65536 == u32::from(kind)
 }
 
-// The pages at the first count bases, as far as they are bases.
+// The pages at the first count bases, if each is a base.
 #[tactic(auto, unfolding(crate::specs::Descriptor::base_in, crate::specs::Descriptor::pages_in))]
-fn pages_listed(m: u8, count: u8, tx: &[u32]) -> Listed
+fn pages_listed(m: u8, count: u8, tx: &[u32]) -> Option<[PageId; 8]>
     requires { (count ≤ PLACES) × Words tx.now }
-    ensures { (result.good ≡ every count (λ i. is_base m (base_in tx.now i))) × (result.good ≡ true → result.pages ≡ pages_in count tx.now) }
+    ensures based { is_some result ≡ every count (λ i. is_base m (base_in tx.now i)) }
+    ensures listed { IfSome result (λ pages. pages ≡ pages_in count tx.now) }
 {
     let mut pages = [PageId(0); 8];
-    let mut i: usize = 0;
-    while i < count as usize {
-        let SomePage::Page(p) = numbers::page_at_base(tx[2 + i], m) else {
-            return Listed {
-                good: false,
-                pages: pages,
-            };
-        };
-        pages[i] = p;
-        i += 1;
+    for i in 0..count as usize {
+        pages[i] = numbers::page_at_base(tx[2 + i], m)?;
     }
-    Listed {
-        good: true,
-        pages: pages,
-    }
+    Some(pages)
 }
 
 // Each of the first count bases is below the next.
@@ -66,46 +47,25 @@ fn bases_ascend(count: u8, tx: &[u32]) -> bool
     requires { (count ≤ PLACES) × Words tx.now }
     ensures { result ≡ ascending count (base_in tx.now) }
 {
-    let mut i: usize = 0;
-    while i + 1 < count as usize {
-        if tx[2 + i] >= tx[3 + i] {
-            return false;
-        }
-        i += 1;
-    }
-    true
+    tx[2..2 + count as usize].is_sorted_by(|a, b| a < b)
 }
 
-// Whether the descriptor of this length is a good one for this call; then also its receiver and its pages.
-pub fn proposal_in(kind: Kind, machine: Machine, length: u32, tx: &[u32]) -> Proposal
+// What the descriptor of this length asks for, if it is a good one for this call.
+pub fn proposal_in(kind: Kind, machine: Machine, length: u32, tx: &[u32]) -> Option<Proposal>
     requires { (3 ≤ length) × (length ≤ 10) × Words tx.now }
-    ensures { (result.good ≡ well_formed kind machine length tx.now) × (result.good ≡ true → Read length tx.now result) }
+    ensures good { is_some result ≡ well_formed kind machine length tx.now }
+    ensures read { IfSome result (Read length tx.now) }
 {
-    let caller = machine.current;
+    let receiver = numbers::vm_of(tx[1] / 65536, machine.n)?;
     let count = (length - 2) as u8;
-    let SomeVm::Vm(receiver) = numbers::vm_of(tx[1] / 65536, machine.n) else {
-        return Proposal {
-            good: false,
-            receiver: caller,
-            count: count,
-            pages: [PageId(0); 8],
-        };
-    };
-    let found = pages_listed(machine.m, count, tx);
-    let pages = found.pages;
-    Proposal {
-        good: header_fits(kind, length, tx)
-            & (!parts::same_vm(receiver, caller) & (found.good & bases_ascend(count, tx))),
-        receiver: receiver,
-        count: count,
-        pages: pages,
+    let pages = pages_listed(machine.m, count, tx)?;
+    if header_fits(kind, length, tx) && receiver != machine.current && bases_ascend(count, tx) {
+        Some(Proposal {
+            receiver,
+            count,
+            pages,
+        })
+    } else {
+        None
     }
-}
-
-// The caller owns each of the first count pages, with access for itself alone, and exclusive.
-pub fn all_own(records: [PageRecord; 64], caller: VmId, count: u8, sent: [PageId; 8]) -> bool
-    requires { (caller.0 < GUESTS) × (count ≤ PLACES) × ((i : ℕ) → i < count → (get_or sent i (page 0)).0 < PAGES) }
-    ensures { result ≡ every count (λ i. same_record (record_at records (get_or sent i (page 0))) (owned_row caller)) }
-{
-    pages::all_have(&records, &sent[..count as usize], parts::owned_row(caller))
 }

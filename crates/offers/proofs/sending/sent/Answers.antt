@@ -1,10 +1,11 @@
--- `offers::sending::sent` meets its contract: it is the definition. The handle is one since the caller is granted one.
-use Rattle.std.proofs.Common.{ltb-true, ◌<◌}
+-- `offers::sending::sent`: the handle is one, since the caller is granted one.
+use Rattle.std.proofs.Common.{ltb-true, ◌<◌, ◌≡◌}
 use Rattle.model.specs.Constants.{HANDLES}
 use Rattle.model.specs.Deeds.{settled}
-use Rattle.model.specs.Sending.{granted}
-use Rattle.model.specs.State.{count_in, count_of, page_at}
-use Rattle.offers.proofs.Offer.{sent_by_lem}
+use Rattle.model.specs.Reply.{succeeded}
+use Rattle.model.specs.Sending.{granted, with_handle}
+use Rattle.model.specs.State.{count_in, count_of, page_at, written}
+use Rattle.offers.specs.Sending.{sent_by}
 use Rattle.offers.proofs.sending.sent.Goals as goal
 
 pub settled-requires : goal.settled-requires
@@ -18,10 +19,10 @@ unfolding settled
 succeeded-done-requires c = rw c.settled.ensures c.requires.caller_below
 
 pub returns : goal.returns
+unfolding sent_by with_handle succeeded settled
 returns c =
-    sent_by_lem c.args.kind c.args.machine c.args.receiver c.args.count _
-    c.lowest_free-h.ensures
-    c.row.ensures
-    c.settled.ensures
-    c.succeeded-done.ensures
-    c.written-all.ensures
+    let files :
+    c.written-registers.result ≡ written c.succeeded-done.result.registers c.args.machine.current 2 c.lowest_free-h.result.0 =
+    c.written-registers.ensures
+    in
+    rw (files, c.succeeded-done.ensures, c.settled.ensures, c.row.ensures, c.lowest_free-h.ensures)
