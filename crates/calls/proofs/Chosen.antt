@@ -1,6 +1,6 @@
 -- The choice by number: past numbers that are others; and what is done under the name that a number has is what the number
 -- chooses.
-use Rattle.std.specs.Prelude.{Result, Ok, Err}
+use Rattle.std.specs.Prelude.{Result, Err}
 use Prim.Native.Nat.{ℕ}
 use mathlib.Core.Path.{◌≡◌, refl, sym, ap, ◌∙◌}
 use mathlib.Core.Bool.{Bool, true, false}
@@ -13,7 +13,7 @@ use Rattle.model.specs.Call.{Choice, on, chosen, call_effect, not_supported}
 use Rattle.parts.specs.declared.refusal.Refusal.{Refusal}
 use Rattle.parts.specs.declared.refusal.Refusal.TheVariants.{NotSupported}
 use Rattle.parts.specs.Refusal.{code_of}
-use Rattle.calls.specs.declared.Call.{Call}
+use Rattle.calls.specs.declared.CallName.{CallName}
 use Rattle.calls.specs.Choice.{named, effect_of, refused_by, done_by}
 
 -- the two sides of a choice
@@ -55,6 +55,11 @@ chosen_of f (c ∷ rest) otherwise w = go (eqb w c.number) (chosen_of f rest oth
     go false on_rest = on_rest
 
 -- the call that R0 names has its effect
-pub named_call : (s : State) → done_by (named (argument s.machine 0)) s ≡ call_effect s
+named_call : (s : State) → done_by (named (argument s.machine 0)) s ≡ call_effect s
 unfolding named call_effect done_by effect_of refused_by not_supported code_of
 named_call s = ap (λ (effect : State → State). effect s) (chosen_of done_by _ _ (argument s.machine 0))
+
+-- the same of what the code has found by the number that it has read
+pub found_call : (s : State) {w : ℕ} {found : Result CallName Refusal} → w ≡ argument s.machine 0 → found ≡ named w
+    → done_by found s ≡ call_effect s
+found_call s read e = rw (e, read) (named_call s)

@@ -17,11 +17,11 @@ use Rattle.model.specs.Call.{on, chosen}
 use Rattle.parts.specs.declared.refusal.Refusal.{Refusal}
 use Rattle.parts.specs.declared.refusal.Refusal.TheVariants.{NotSupported}
 use Rattle.parts.specs.Refusal.{code_of}
-use Rattle.calls.specs.declared.Call.{Call}
-use Rattle.calls.specs.declared.Call.TheVariants as call
+use Rattle.calls.specs.declared.CallName.{CallName}
+use Rattle.calls.specs.declared.CallName.TheVariants as call
 
 -- the call of this number, if it is one's
-unfoldable pub named : ℕ → Result Call Refusal
+unfoldable pub named : ℕ → Result CallName Refusal
 named number =
     chosen
     (on RUN (Ok call.Run)
@@ -39,7 +39,7 @@ named number =
     (Err NotSupported)
     number
 
-unfoldable pub effect_of : Call → State → State
+unfoldable pub effect_of : CallName → State → State
 effect_of call.Run = run_effect
 effect_of call.Yield = yield_effect
 effect_of call.Poll = poll_effect
@@ -54,6 +54,6 @@ unfoldable pub refused_by : Refusal → State → State
 refused_by refusal s = answer (refused (code_of refusal)) s s
 
 -- what is done under a name, or where there is none
-unfoldable pub done_by : Result Call Refusal → State → State
+unfoldable pub done_by : Result CallName Refusal → State → State
 done_by (Ok called) = effect_of called
 done_by (Err refusal) = refused_by refusal

@@ -14,7 +14,7 @@ use parts::{Refusal, codes, reply};
 
 // The calls.
 #[derive(Clone, Copy, PartialEq, Eq)]
-pub enum Call {
+pub enum CallName {
     Run,
     Yield,
     Poll,
@@ -27,7 +27,7 @@ pub enum Call {
 }
 
 // The call of a number; any other number is refused as not supported.
-impl TryFrom<u32> for Call {
+impl TryFrom<u32> for CallName {
     type Error = Refusal;
 
     ghost try_from_gives = { λ number result. result ≡ named number };
@@ -35,17 +35,17 @@ impl TryFrom<u32> for Call {
     #[tactic(auto, using(crate::proofs::Chosen::no_call), unfolding(crate::specs::Choice::named, model::specs::Call::chosen))]
     fn try_from(number: u32) -> Result<Self, Refusal> {
         match number {
-            codes::RUN => Ok(Call::Run),
-            codes::YIELD => Ok(Call::Yield),
-            codes::POLL => Ok(Call::Poll),
-            codes::WAIT => Ok(Call::Wait),
-            codes::SEND => Ok(Call::Send),
-            codes::DONATE => Ok(Call::Transfer(Kind::Donate)),
-            codes::LEND => Ok(Call::Transfer(Kind::Lend)),
-            codes::SHARE => Ok(Call::Transfer(Kind::Share)),
-            codes::RETRIEVE => Ok(Call::Retrieve),
-            codes::RELINQUISH => Ok(Call::Relinquish),
-            codes::RECLAIM => Ok(Call::Reclaim),
+            codes::RUN => Ok(CallName::Run),
+            codes::YIELD => Ok(CallName::Yield),
+            codes::POLL => Ok(CallName::Poll),
+            codes::WAIT => Ok(CallName::Wait),
+            codes::SEND => Ok(CallName::Send),
+            codes::DONATE => Ok(CallName::Transfer(Kind::Donate)),
+            codes::LEND => Ok(CallName::Transfer(Kind::Lend)),
+            codes::SHARE => Ok(CallName::Transfer(Kind::Share)),
+            codes::RETRIEVE => Ok(CallName::Retrieve),
+            codes::RELINQUISH => Ok(CallName::Relinquish),
+            codes::RECLAIM => Ok(CallName::Reclaim),
             _ => Err(Refusal::NotSupported),
         }
     }
@@ -53,29 +53,30 @@ impl TryFrom<u32> for Call {
 
 // What a call by its name does.
 #[tactic(auto, unfolding(crate::specs::Choice::effect_of))]
-fn made(called: Call, machine: Machine, mem: &mut [u32]) -> Machine
+fn made(called: CallName, machine: Machine, mem: &mut [u32]) -> Machine
     requires { (sound machine ≡ true) × (length mem.old ≡ PAGE * machine.m) }
     ensures { state result mem.new ≡ effect_of called (state machine mem.old) }
 {
     match called {
-        Call::Run => control::run::run(machine),
-        Call::Yield => control::yielding::yield_call(machine),
-        Call::Poll => control::poll::poll(machine),
-        Call::Wait => control::wait::wait(machine),
-        Call::Send => control::send::send(machine, mem),
-        Call::Transfer(kind) => offers::sending::sending(kind, machine, &mem[..]),
-        Call::Retrieve => handles::retrieve::retrieve(machine),
-        Call::Relinquish => handles::relinquish::relinquish(machine),
-        Call::Reclaim => handles::reclaim::reclaim(machine),
+        CallName::Run => control::run::run(machine),
+        CallName::Yield => control::yielding::yield_call(machine),
+        CallName::Poll => control::poll::poll(machine),
+        CallName::Wait => control::wait::wait(machine),
+        CallName::Send => control::send::send(machine, mem),
+        CallName::Transfer(kind) => offers::sending::sending(kind, machine, &mem[..]),
+        CallName::Retrieve => handles::retrieve::retrieve(machine),
+        CallName::Relinquish => handles::relinquish::relinquish(machine),
+        CallName::Reclaim => handles::reclaim::reclaim(machine),
     }
 }
 
 // What the current guest's call does, on a sound machine.
+#[tactic(auto, using(parts::proofs::Answers::caller_below))]
 pub fn call(machine: Machine, mem: &mut [u32]) -> Machine
     requires { (sound machine ≡ true) × (length mem.old ≡ PAGE * machine.m) }
     ensures { state result mem.new ≡ call_effect (state machine mem.old) }
 {
-    match Call::try_from(reply::argument(machine, 0)) {
+    match CallName::try_from(reply::argument(machine, 0)) {
         Ok(called) => made(called, machine, mem),
         Err(refusal) => reply::with_error(machine, refusal),
     }
