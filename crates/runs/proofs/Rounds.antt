@@ -190,9 +190,9 @@ module _ {whole : Rest} {onlyToCall : Bool} {budget : ℕ} {m : Machine} {stop :
         ∙ stopped.same
 
     -- the end, if only the way to the call is wanted
-    pub made : onlyToCall ≡ true → rest (state k last) left (Some (made m.current (get_or file.r 0 0))) ≡ whole
+    pub call_made : onlyToCall ≡ true → rest (state k last) left (Some (made m.current (get_or file.r 0 0))) ≡ whole
     unfolding after_stop with_own argument register
-    made only =
+    call_made only =
         let r0 : get_or file.r 0 0 ≡ argument (with_own m file) 0 =
         ap (λ (own : Registers). register own 0) (sym (own_same m file stopped.low)) in
         rw (did, r0) (after_call true only)

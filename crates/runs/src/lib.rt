@@ -12,7 +12,7 @@ use exec::instruction::Stop;
 use exec::rights::Maps;
 use exec::switch::Switch;
 use exec::{burst, rights, switch};
-use model::{MadeCall, Machine, Mode, Registers, VmId};
+use model::{Machine, MadeCall, Mode, Registers, VmId};
 use parts::codes;
 
 // What a run leaves: also what is left of its budget, and the call that ended it, if one did.

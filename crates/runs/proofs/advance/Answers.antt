@@ -5,7 +5,7 @@ use Rattle.model.proofs.Typed.{typed_shaped}
 use Rattle.model.specs.State.{mailbox_at, own_registers, plus, registers_at, state}
 use Rattle.model.specs.Step.{hvc, with_own}
 use Rattle.runs.proofs.Ready.{MapsOf, ready_none}
-use Rattle.runs.proofs.Rounds.{Met, again, burst_less, bursts, made, maps_kept, maps_made, meets, other_calls, other_fits, over, own_kept, stay_calls, stops, to_calls, wake_calls}
+use Rattle.runs.proofs.Rounds.{Met, again, burst_less, bursts, call_made, maps_kept, maps_made, meets, other_calls, other_fits, over, own_kept, stay_calls, stops, to_calls, wake_calls}
 use Rattle.runs.proofs.advance.Goals as goal
 use Rattle.runs.proofs.advance.Goals.{in-None, in-Other, in-Some, in-Stay, in-To, in-Wake}
 
@@ -74,7 +74,7 @@ returns-then-to_call c =
       | in-To w ↦ meets w.mem-is w.m-is w.kept-is (to_calls stopped was w.in-To.is) (omega arith) kept
     ]
     in
-    made stopped called met.did c.if-to_call.true
+    call_made stopped called met.did c.if-to_call.true
 
 pub loop-left-smaller : goal.loop-left-smaller
 loop-left-smaller c = burst_less _ _ _ _ c.burst-b.ensures c.loop-left-test.true
