@@ -1,14 +1,18 @@
 -- Which way the definitions of the entries go, by what the code tests.
 use Prim.Native.Nat.{ℕ, ◌*◌}
 use mathlib.Core.Path.{◌≡◌, refl, sym, ◌∙◌}
-use mathlib.Core.Bool.{Bool, true, false, cond}
+use mathlib.Core.Bool.{Bool, true, false, cond, not}
 use mathlib.Core.List.{List}
 use lib.ListN.{length}
-use borrow.Author.Tests.{eq-eqb, ne_eqb}
+use borrow.Author.Tests.{eq-eqb, ne_eqb, not-true, not-false}
 use Rattle.model.specs.declared.Mode.{Mode}
 use Rattle.model.specs.declared.Machine.{Machine}
 use Rattle.model.specs.declared.Answer.{Answer}
-use Rattle.model.specs.declared.Answer.TheVariants.{Done, WrongMemory, Unsound, Stopped}
+use Rattle.model.specs.declared.Answer.TheVariants.{Done, WrongMemory, Unsound, Stopped, BrokenImage}
+use Rattle.model.specs.declared.Mode.TheVariants.{Normal, Fault, Halted}
+use Rattle.model.specs.contracts.Answer as of-answer
+use Rattle.model.specs.contracts.Mode as of-mode
+use denote.Enum.Bare.{sameb}
 use Rattle.model.specs.Constants.{PAGE}
 use Rattle.model.specs.State.{State, state, is_normal}
 use Rattle.model.specs.Answer.{answer_number, answers, is_done}
@@ -16,7 +20,6 @@ use Rattle.model.specs.Sound.{sound}
 use Rattle.model.specs.Call.{call_effect}
 use Rattle.model.specs.Entries.{judged, check_of, then_mode, acted, acted_by, call_of}
 use Rattle.model.proofs.Sound.{holds_sound}
-use Rattle.model.proofs.Refusals.{not_done}
 use Rattle.model.proofs.Entries.{is_done_lem, done_memory, done_sound}
 
 -- The check.
@@ -34,14 +37,30 @@ module _ (m : Machine) (memory : List ℕ) {isSound : Bool} (fits : length memor
   unfolding check_of judged
   check_done e = rw (eq-eqb (length memory) (PAGE * m.m) fits, ← asked, e)
 
--- An answer is 0, or it is not: the code has its number.
+-- An answer is 0, or it is not: the code compares it, `answer != Answer::Done`.
 
-pub is_done_zero : (answer : Answer) {number : ℕ} → number ≡ answer_number answer → number ≡ 0 → is_done answer ≡ true
-unfolding answers
-is_done_zero answer asked e = eq-eqb (answer_number answer) 0 (sym asked ∙ e)
+same_done : (answer : Answer) → sameb of-answer.the_type answer Done ≡ is_done answer
+unfolding answers answer_number
+same_done Done = refl
+same_done WrongMemory = refl
+same_done Unsound = refl
+same_done Stopped = refl
+same_done BrokenImage = refl
 
-pub not_zero : (answer : Answer) {number : ℕ} → number ≡ answer_number answer → (number ≡ 0 → ⊥) → is_done answer ≡ false
-not_zero answer asked e = not_done answer (λ z. e (asked ∙ z))
+pub told_done : (answer : Answer) {differs : Bool} → differs ≡ not (sameb of-answer.the_type answer Done) → differs ≡ false
+    → is_done answer ≡ true
+told_done answer asked e = sym (same_done answer) ∙ not-false _ (sym asked ∙ e)
+
+pub told_refused : (answer : Answer) {differs : Bool} → differs ≡ not (sameb of-answer.the_type answer Done) → differs ≡ true
+    → is_done answer ≡ false
+told_refused answer asked e = sym (same_done answer) ∙ not-true _ (sym asked ∙ e)
+
+-- so is the mode, `mode == Mode::Normal`
+pub same_normal : (mode : Mode) → sameb of-mode.the_type mode Normal ≡ is_normal mode
+unfolding is_normal
+same_normal Normal = refl
+same_normal Fault = refl
+same_normal Halted = refl
 
 -- The mode.
 

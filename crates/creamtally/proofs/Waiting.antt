@@ -29,7 +29,7 @@ fits_page : (inbox : Option Message) → ((words : ℕ) (sender : VmId) → inbo
     → length_of inbox ≤ PAGE
 unfolding length_of
 fits_page None in_range = omega arith
-fits_page (Some (message words sender)) in_range = (in_range words sender refl).1
+fits_page (Some waits) in_range = (in_range waits.length waits.sender refl).1
 
 -- so many words from a page's start on: they lie inside memory, and are what waits for guest g, where it waits
 pub record Waits (m : Machine) (memory : List ℕ) (g : VmId) (p : PageId) (words : ℕ) : Type 0 where

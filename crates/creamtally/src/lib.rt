@@ -24,7 +24,7 @@ pub fn check(machine: Machine, mem: &[u32]) -> Answer
     if mem.len() != 1024 * (machine.m as usize) {
         return Answer::WrongMemory;
     }
-    if !sound::is_sound(machine) {
+    if !sound::is_sound(&machine) {
         return Answer::Unsound;
     }
     Answer::Done

@@ -3,7 +3,7 @@ use Rattle.std.proofs.Common.{List, ap, ℕ, ◌∙◌, ◌≡◌}
 use Rattle.model.specs.Entries.{check_of, then_mode}
 use Rattle.model.specs.declared.Answer.{Answer}
 use Rattle.model.specs.declared.Machine.{Machine}
-use Rattle.creamtally.proofs.Answers.{call_done, call_refused, checked, is_done_zero, not_zero}
+use Rattle.creamtally.proofs.Answers.{call_done, call_refused, checked, told_done, told_refused}
 use Rattle.creamtally.proofs.call.Goals as goal
 
 -- the answer is that of the check, and then of the mode
@@ -15,17 +15,17 @@ pub returns-then-refused : goal.returns-then-refused
 returns-then-refused c =
     call_refused _ _ _
     (answered _ _ c.check.ensures c.then_mode-answer.ensures)
-    (not_zero _ c.answer_number-refused.ensures c.if-refused.true)
+    (told_refused _ c.ne-refused.ensures c.if-refused.true)
 
 pub call-requires : goal.call-requires
 call-requires c =
     checked _ _ _
     (answered _ _ c.check.ensures c.then_mode-answer.ensures)
-    (is_done_zero _ c.answer_number-refused.ensures c.if-refused.false)
+    (told_done _ c.ne-refused.ensures c.if-refused.false)
 
 pub returns : goal.returns
 returns c =
     call_done _ _ _
     (answered _ _ c.check.ensures c.then_mode-answer.ensures)
-    (is_done_zero _ c.answer_number-refused.ensures c.if-refused.false)
+    (told_done _ c.ne-refused.ensures c.if-refused.false)
     _ c.call.ensures

@@ -1,32 +1,32 @@
 -- `message`: the ways out, and that the words that wait lie inside memory.
-use Rattle.creamtally.proofs.Answers.{is_done_zero, not_zero}
+use Rattle.creamtally.proofs.Answers.{told_done, told_refused}
 use Rattle.creamtally.proofs.Waiting.{begins, begins_first, guest_below, message_of_nobody, message_refused, message_waits, place_of_nobody, refused_place}
 use Rattle.creamtally.proofs.message.Goals as goal
 
 pub returns-then-refused : goal.returns-then-refused
 returns-then-refused c =
-    let refused = not_zero _ c.answer_number-refused.ensures c.if-refused.true in
+    let refused = told_refused _ c.ne-refused.ensures c.if-refused.true in
     (message_refused _ _ _ _ c.check.ensures refused, begins_first _ (refused_place _ _ _ _ c.check.ensures refused))
 
 pub returns-then-g-machine : goal.returns-then-g-machine
 returns-then-g-machine c =
-    let done = is_done_zero _ c.answer_number-refused.ensures c.if-refused.false in (
+    let done = told_done _ c.ne-refused.ensures c.if-refused.false in (
       message_of_nobody _ _ _ _ c.check.ensures done c.if-g-machine.true,
       begins_first _ (place_of_nobody _ _ _ _ c.check.ensures done c.if-g-machine.true),
     )
 
 pub inbox_at-requires : goal.inbox_at-requires
 inbox_at-requires c =
-    guest_below _ _ _ _ c.check.ensures (is_done_zero _ c.answer_number-refused.ensures c.if-refused.false) c.if-g-machine.false
+    guest_below _ _ _ _ c.check.ensures (told_done _ c.ne-refused.ensures c.if-refused.false) c.if-g-machine.false
 
 pub mailbox_at-requires : goal.mailbox_at-requires
 mailbox_at-requires c =
-    guest_below _ _ _ _ c.check.ensures (is_done_zero _ c.answer_number-refused.ensures c.if-refused.false) c.if-g-machine.false
+    guest_below _ _ _ _ c.check.ensures (told_done _ c.ne-refused.ensures c.if-refused.false) c.if-g-machine.false
 
 pub slice_bounds-result-end-2 : goal.slice_bounds-result-end-2
 slice_bounds-result-end-2 c =
     let waits =
-    message_waits _ _ _ _ c.check.ensures (is_done_zero _ c.answer_number-refused.ensures c.if-refused.false)
+    message_waits _ _ _ _ c.check.ensures (told_done _ c.ne-refused.ensures c.if-refused.false)
     c.if-g-machine.false c.inbox_at.ensures c.length_of-words.ensures c.mailbox_at.ensures
     in
     waits.inside
@@ -34,7 +34,7 @@ slice_bounds-result-end-2 c =
 pub returns : goal.returns
 returns c =
     let waits =
-    message_waits _ _ _ _ c.check.ensures (is_done_zero _ c.answer_number-refused.ensures c.if-refused.false)
+    message_waits _ _ _ _ c.check.ensures (told_done _ c.ne-refused.ensures c.if-refused.false)
     c.if-g-machine.false c.inbox_at.ensures c.length_of-words.ensures c.mailbox_at.ensures
     in
     (waits.part, begins _ waits.place)

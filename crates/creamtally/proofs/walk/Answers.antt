@@ -1,30 +1,34 @@
 -- `walk`: it stays where the check or the mode refuses, and else the steps are the model's.
-use Rattle.std.proofs.Common.{ap, ℕ, ◌∙◌, ◌≡◌}
-use Rattle.model.specs.Answer.{answer_number}
+use Rattle.std.proofs.Common.{ap, not, ◌∙◌, ◌≡◌}
+use denote.Enum.Bare.{sameb}
+use Rattle.model.specs.contracts.Answer as of-answer
 use Rattle.model.specs.declared.Answer.{Answer}
-use Rattle.creamtally.proofs.Answers.{is_done_zero, not_zero}
+use Rattle.model.specs.declared.Answer.TheVariants.{Done}
+use Rattle.std.specs.Prelude.{Bool}
+use Rattle.creamtally.proofs.Answers.{told_done, told_refused}
 use Rattle.creamtally.proofs.Walks.{can_begin, left_within, walk_goes, walk_still}
 use Rattle.creamtally.proofs.walk.Goals as goal
 
--- the number is that of the check's answer and the mode
-numbered : (due : Answer) {told : Answer} {number : ℕ} → told ≡ due → number ≡ answer_number told → number ≡ answer_number due
-numbered due e f = f ∙ ap answer_number e
+-- what is compared is the answer that the mode leaves
+compared : (due : Answer) {told : Answer} {differs : Bool} → told ≡ due → differs ≡ not (sameb of-answer.the_type told Done)
+    → differs ≡ not (sameb of-answer.the_type due Done)
+compared due e f = f ∙ ap (λ (a : Answer). not (sameb of-answer.the_type a Done)) e
 
-pub returns-then-answer_number-ne0 : goal.returns-then-answer_number-ne0
-returns-then-answer_number-ne0 c =
+pub returns-then-ne : goal.returns-then-ne
+returns-then-ne c =
     walk_still c.args.to_call c.args.machine c.args.mem.now c.args.budget _ c.check-answer.ensures
-    (not_zero _ (numbered _ c.then_mode.ensures c.answer_number.ensures) c.if-answer_number-ne0.true)
+    (told_refused _ (compared _ c.then_mode.ensures c.ne.ensures) c.if-ne.true)
 
-pub advance-advanced-requires : goal.advance-advanced-requires
-advance-advanced-requires c =
+pub advance-left-requires : goal.advance-left-requires
+advance-left-requires c =
     can_begin _ _ c.check-answer.ensures
-    (is_done_zero _ (numbered _ c.then_mode.ensures c.answer_number.ensures) c.if-answer_number-ne0.false)
+    (told_done _ (compared _ c.then_mode.ensures c.ne.ensures) c.if-ne.false)
 
 pub overflow_sub-result : goal.overflow_sub-result
-overflow_sub-result c = left_within _ _ _ c.advance-advanced.ensures
+overflow_sub-result c = left_within _ _ _ c.advance-left.ensures
 
 pub returns : goal.returns
 returns c =
     walk_goes c.args.to_call c.args.machine c.args.mem.now c.args.budget _ c.check-answer.ensures
-    (is_done_zero _ (numbered _ c.then_mode.ensures c.answer_number.ensures) c.if-answer_number-ne0.false)
-    c.advance-advanced.ensures
+    (told_done _ (compared _ c.then_mode.ensures c.ne.ensures) c.if-ne.false)
+    c.advance-left.ensures
