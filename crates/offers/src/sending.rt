@@ -61,6 +61,7 @@ fn sent(kind: Kind, machine: Machine, proposal: Proposal) -> Machine
 
 // The tests, on the caller's R1 and the words from its TX page on: what is INVALID first, then DENIED, then NO_MEMORY. Then
 // what the call does.
+#[tactic(auto, using(parts::proofs::Answers::caller_below))]
 fn tried(kind: Kind, machine: Machine, mem: &[u32]) -> Result<Machine, Refusal>
     requires { (sound machine ≡ true) × (length mem.now ≡ PAGE * machine.m) }
     ensures tests { verdict_of result ≡ sending_verdict kind (state machine mem.now) }
@@ -86,6 +87,7 @@ fn tried(kind: Kind, machine: Machine, mem: &[u32]) -> Result<Machine, Refusal>
 }
 
 // A sending is answered by what its tests come to.
+#[tactic(auto, using(parts::proofs::Answers::caller_below))]
 pub fn sending(kind: Kind, machine: Machine, mem: &[u32]) -> Machine
     requires { (sound machine ≡ true) × (length mem.now ≡ PAGE * machine.m) }
     ensures { state result mem.now ≡ sending_effect kind (state machine mem.now) }

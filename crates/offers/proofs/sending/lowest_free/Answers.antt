@@ -8,12 +8,14 @@ use Rattle.std.proofs.lemmas.Iterator.{YieldsList-from_slice}
 use Rattle.std.proofs.lemmas.Iterator.Search.{position_from_yields_List}
 use Rattle.std.proofs.lemmas.List.Sums.{prefix_len_passes, prefix_len_stops}
 use Rattle.model.specs.declared.Transaction.{Transaction}
+use Rattle.model.specs.Constants.{HANDLES}
 use Rattle.model.specs.State.{handle, transaction_at}
 use Rattle.model.specs.Tests.{first}
 use Rattle.model.specs.Sending.{is_free, lowest_free}
 use Rattle.model.proofs.Tests.{first_is, none_first}
 use Rattle.offers.proofs.sending.lowest_free.Goals as goal
 
+-- the place that `position` finds, or the length, is the first number below it that passes
 first_position : {A : Type 0} (d : A) (p : A → Bool) (xs : List A) {n : ℕ} → length xs ≡ n
     → unwrap_or (position p xs) n ≡ first n (λ k. p (get_or xs k d))
 first_position {A} d p xs {n} e =
@@ -39,7 +41,9 @@ returns c =
     (YieldsList-from_slice c.args.transactions.now c.iter.ensures.rest)
     (λ x b q k. search (rules, tests))
     in
-    ap handle
-    (c.unwrap_or.ensures
+    let lowest : c.unwrap_or.result ≡ first HANDLES (λ k. free (transaction_at c.args.transactions.now (handle k))) =
+    c.unwrap_or.ensures
     ∙ ap (λ o. unwrap_or o 16) stops
-    ∙ first_position _ free c.args.transactions.now c.told-transactions)
+    ∙ first_position _ free c.args.transactions.now c.told-transactions
+    in
+    ap handle (omega arith)

@@ -1,9 +1,6 @@
 use Rattle.model.specs.Sending.{sending_effect}
-use Rattle.parts.proofs.Answers.{answered-answer, caller_below}
+use Rattle.parts.proofs.Answers.{answered-answer}
 use Rattle.offers.proofs.sending.sending.Goals as goal
-
-pub answered-requires : goal.answered-requires
-answered-requires c = caller_below _ c.requires.0
 
 pub returns : goal.returns
 unfolding sending_effect

@@ -5,21 +5,15 @@ use Rattle.std.proofs.lemmas.Bool.{false≢true}
 use Rattle.isa.specs.Tests.{◌and◌}
 use Rattle.model.specs.State.{state}
 use Rattle.parts.specs.Refusal.{code_of, verdict_of}
-use Rattle.parts.proofs.Answers.{caller_below, need_fails, need_passes}
+use Rattle.parts.proofs.Answers.{need_fails, need_passes}
 use Rattle.offers.proofs.Offer.{ill_formed, told, tx_inside, tx_long, tx_part, wrong_length}
 use Rattle.offers.proofs.sending.tried.Goals as goal
-
-pub argument-words-requires : goal.argument-words-requires
-argument-words-requires c = (caller_below _ c.requires.0, omega arith)
 
 pub returns-then-not-contains-clause-tests : goal.returns-then-not-contains-clause-tests
 unfolding ◌and◌ verdict_of code_of
 returns-then-not-contains-clause-tests c = wrong_length _ _ _ c.argument-words.ensures (grind rules)
 
 -- The words of the TX page.
-
-pub mailbox_at-requires : goal.mailbox_at-requires
-mailbox_at-requires c = caller_below _ c.requires.0
 
 pub slice_bounds-tx-count : goal.slice_bounds-tx-count
 slice_bounds-tx-count c = omega (arith, tx_inside _ c.args.mem.now _ c.mailbox_at.ensures c.requires.0 c.requires.1)
@@ -33,6 +27,7 @@ proposal_in-requires c =
 
 -- The descriptor.
 
+-- the error of a value that is missing
 error_of : {A E : Type 0} (o : Option A) {e f : E} → Err f ≡ ok_or o e → f ≡ e
 error_of None q = cc
 error_of (Some x) q = absurd (false≢true (ap is_ok q))
@@ -46,9 +41,6 @@ returns-in_err-proposal-clause-tests c =
     (sym c.proposal_in.ensures.good ∙ sym c.in_err-proposal.ensures.variant)
 
 -- The pages.
-
-pub owned_row-requires : goal.owned_row-requires
-owned_row-requires c = caller_below _ c.requires.0
 
 pub all_have-requires : goal.all_have-requires
 all_have-requires c =
