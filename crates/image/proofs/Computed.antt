@@ -10,14 +10,14 @@ use Rattle.image.specs.Bytes.{byte_at, number_at, word_at}
 use Rattle.image.specs.Pieces.{among, record_from, end_of, cut}
 use Rattle.image.specs.Contents.{has_form, has_words, content_of}
 use Rattle.image.specs.Drafts.{begun, unused, describable, ownable, inside, complete, fits, is_counts, may_stand, with_counts, with_guest, with_owner, with_budget, taken}
-use Rattle.image.specs.Judging.{with_budget_read, at_end, heard, tried, turn, follow, judged_from, judged_of}
+use Rattle.image.specs.Judging.{ended_with, at_end, heard, tried, turn, follow, judged_from, judged_of}
 use Rattle.image.specs.Laying.{words_laid, content_laid, record_laid, piece_laid, laid_from, memory_of}
 use Rattle.image.specs.Loading.{loaded_into, loaded_by, load_of}
 use Rattle.image.specs.Worked.{counts, guest, owner, word, budget, program, example, seen, told, small, WorkedImages}
 
 -- what has to unfold for a load to compute
 unfoldable loads_compute : Unit {0}
-unfolding entries_compute blank refused_load byte_at number_at word_at among record_from end_of cut has_form has_words content_of begun unused describable ownable inside complete fits is_counts may_stand with_counts with_guest with_owner with_budget taken with_budget_read at_end heard tried turn follow judged_from judged_of words_laid content_laid record_laid piece_laid laid_from memory_of loaded_into loaded_by load_of counts guest owner word budget program example seen told small
+unfolding entries_compute blank refused_load byte_at number_at word_at among record_from end_of cut has_form has_words content_of begun unused describable ownable inside complete fits is_counts may_stand with_counts with_guest with_owner with_budget taken ended_with at_end heard tried turn follow judged_from judged_of words_laid content_laid record_laid piece_laid laid_from memory_of loaded_into loaded_by load_of counts guest owner word budget program example seen told small
 loads_compute = tt
 
 pub worked_images : WorkedImages

@@ -45,7 +45,7 @@ use Rattle.image.specs.declared.Draft.{Draft}
 use Rattle.image.specs.declared.Image.{Image}
 use Rattle.image.specs.Pieces.{image_kinds, end_of, cut}
 use Rattle.image.specs.Drafts.{begun, unused, describable, ownable, complete, fits, is_counts, may_stand, with_pc, with_counts, with_guest, with_owner, with_budget, taken}
-use Rattle.image.specs.Judging.{Judged, Turn, stops, goes_on, broken, good, with_budget_read, at_end, heard, tried, turn, follow, judged_from, judged_of}
+use Rattle.image.specs.Judging.{Judged, Turn, stops, goes_on, broken, good, ended_with, at_end, heard, tried, turn, follow, judged_from, judged_of}
 
 -- A way through an image: Along holds where a record is looked at, and stays so behind each record that may stand; so the
 -- verdict has what Told says, if an end and a bad record have.
@@ -512,8 +512,8 @@ drafted_built at d (before start same) ended = absurd (not_both ended (ap (λ (x
 drafted_built at d (behind later c) ended = built d c ended
 
 end_built : (at : ℕ) (d : Draft) → Drafted at d → (budget : Option ℕ) → d.budget ≡ budget
-    → ToldBuilt (with_budget_read at d.machine budget)
-unfolding with_budget_read
+    → ToldBuilt (ended_with at d.machine budget)
+unfolding ended_with
 end_built at d c (Some budget) e machine told is =
     let image : Image = record { machine = d.machine; budget = budget } in
     let other : Image = record { machine = machine; budget = told } in

@@ -26,7 +26,7 @@ use Rattle.image.specs.declared.Broken.{Broken}
 use Rattle.image.specs.Pieces.{image_kinds, cut}
 use Rattle.image.specs.Contents.{content_of}
 use Rattle.image.specs.Drafts.{begun}
-use Rattle.image.specs.Judging.{Judged, broken, good, with_budget_read, at_end, judged_of}
+use Rattle.image.specs.Judging.{Judged, broken, good, ended_with, at_end, judged_of}
 use Rattle.image.specs.Laying.{words_laid, content_laid, record_laid, piece_laid, laid_from, memory_of}
 use Rattle.image.specs.Loading.{Put, loaded_into, loaded_by, load_of}
 use Rattle.image.specs.Loads.{LoadedPasses, Fresh, LoadedFresh, BadOffsetInside}
@@ -106,8 +106,8 @@ break_inside bytes at inside offset e =
     omega (arith, ap (λ (b : Broken). b.offset) same)
 
 end_inside : (bytes : List ℕ) (at : ℕ) (machine : Machine) (budget : Option ℕ) → at ≤ length bytes
-    → ToldInside bytes (with_budget_read at machine budget)
-unfolding with_budget_read
+    → ToldInside bytes (ended_with at machine budget)
+unfolding ended_with
 end_inside bytes at machine None inside offset e = break_inside bytes at inside offset e
 end_inside bytes at machine (Some budget) inside offset e = cc
 

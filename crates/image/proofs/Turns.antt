@@ -23,7 +23,7 @@ use Rattle.image.specs.declared.Broken.{Broken}
 use Rattle.image.specs.Pieces.{image_kinds, end_of, cut}
 use Rattle.image.specs.Contents.{content_of}
 use Rattle.image.specs.Drafts.{Ranged, begun, may_stand, taken}
-use Rattle.image.specs.Judging.{Judged, broken, good, with_budget_read, at_end, heard, tried, turn, follow, judged_from, judged_of}
+use Rattle.image.specs.Judging.{Judged, broken, good, ended_with, at_end, heard, tried, turn, follow, judged_from, judged_of}
 use Rattle.image.specs.Laying.{record_laid, piece_laid, laid_from, memory_of}
 use Rattle.image.specs.Loading.{left_by_load, loaded_into, loaded_by, load_of}
 use Rattle.image.proofs.Cutting.{cut_whole}
@@ -49,11 +49,11 @@ lacked (Some a) e asked err leaves none = cc
 -- The ways out at the end of an image: no budget was read, or one was.
 
 pub end_early : (at : ℕ) (d : Draft) → d.budget ≡ None → broken at ≡ at_end at d
-unfolding at_end with_budget_read
+unfolding at_end ended_with
 end_early at d none = rw none
 
 pub end_good : (at : ℕ) (d : Draft) {budget : ℕ} → d.budget ≡ Some budget → good d.machine budget ≡ at_end at d
-unfolding at_end with_budget_read
+unfolding at_end ended_with
 end_good at d read = rw read
 
 -- Judging: what is judged from an offset on is what is judged of the whole image.

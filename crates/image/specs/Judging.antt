@@ -20,12 +20,12 @@ abbrev pub good : Machine → ℕ → Judged
 good machine budget = Ok (record { machine = machine; budget = budget })
 
 -- at the image's end: it is good if kind 5 was read
-unfoldable pub with_budget_read : ℕ → Machine → Option ℕ → Judged
-with_budget_read at machine None = broken at
-with_budget_read at machine (Some budget) = good machine budget
+unfoldable pub ended_with : ℕ → Machine → Option ℕ → Judged
+ended_with at machine None = broken at
+ended_with at machine (Some budget) = good machine budget
 
 unfoldable pub at_end : ℕ → Draft → Judged
-at_end at d = with_budget_read at d.machine d.budget
+at_end at d = ended_with at d.machine d.budget
 
 -- what comes of looking at one offset: a verdict, or the next offset and a draft with more in it
 pub data Turn : Type 0 where

@@ -18,7 +18,7 @@ use Rattle.image.specs.Bytes.{byte_at, number_at, word_at}
 use Rattle.image.specs.Pieces.{among, record_from, end_of, cut}
 use Rattle.image.specs.Contents.{has_form, has_words, content_of}
 use Rattle.image.specs.Drafts.{begun, unused, describable, ownable, inside, complete, fits, is_counts, may_stand, with_counts, with_guest, with_owner, with_budget, taken}
-use Rattle.image.specs.Judging.{with_budget_read, at_end, heard, tried, turn, follow, judged_from, judged_of}
+use Rattle.image.specs.Judging.{ended_with, at_end, heard, tried, turn, follow, judged_from, judged_of}
 use Rattle.image.specs.Laying.{words_laid, content_laid, record_laid, piece_laid, laid_from, memory_of}
 use Rattle.image.specs.Worked.{counts, guest, owner, budget, program, example}
 use Rattle.image.proofs.Loads.{loaded_passes}
@@ -48,6 +48,6 @@ prints_its_run bytes m e =
     rw (e, image_passes bytes m e, none, count)
 
 pub printed_examples : PrintedExamples
-unfolding entries_compute blank refused_load byte_at number_at word_at among record_from end_of cut has_form has_words content_of begun unused describable ownable inside complete fits is_counts may_stand with_counts with_guest with_owner with_budget taken with_budget_read at_end heard tried turn follow judged_from judged_of words_laid content_laid record_laid piece_laid laid_from memory_of counts guest owner budget program example one_more steps went_by run_of is_called calls_next line_of lines_from or_next first glyph_of digits places_of decimal hex8 mode_word line_text end_text refused_text broken_text example_line judged_course course_of image_in image_run lines_text lines_if calls_from rest_of printed_by printed_of idle
+unfolding entries_compute blank refused_load byte_at number_at word_at among record_from end_of cut has_form has_words content_of begun unused describable ownable inside complete fits is_counts may_stand with_counts with_guest with_owner with_budget taken ended_with at_end heard tried turn follow judged_from judged_of words_laid content_laid record_laid piece_laid laid_from memory_of counts guest owner budget program example one_more steps went_by run_of is_called calls_next line_of lines_from or_next first glyph_of digits places_of decimal hex8 mode_word line_text end_text refused_text broken_text example_line judged_course course_of image_in image_run lines_text lines_if calls_from rest_of printed_by printed_of idle
 printed_examples =
     record { yields = refl; nothing = refl; no_budget = refl; sixteen = refl; seventeen = refl; no_step = refl }
