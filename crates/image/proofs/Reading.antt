@@ -1,5 +1,5 @@
 -- What the proofs of reading share: the counts of a draft stay in range, record by record; and every guest is asked.
-use Prim.Native.Nat.{ℕ}
+use Prim.Native.Nat.{ℕ, ◌<◌}
 use mathlib.Core.Path.{◌≡◌, ap, ◌∙◌}
 use mathlib.Core.Bool.{Bool, true}
 use native.Mathlib.Omega.{arith}
@@ -37,4 +37,7 @@ may_stand_fits at d content e = grind (arith, common_steps)
 pub every_ranged : (n : ℕ) (p : ℕ → Bool) → list_all p (range_with_len 0 n) ≡ every n p
 every_ranged n p =
     every_listed 0 p _ (length-range_with_len 0 n)
-    ∙ every_same n (λ k. p (get_or (range_with_len 0 n) k 0)) p (λ k b. let same : get_or (range_with_len 0 n) k 0 ≡ k = omega (arith, get_or-range_with_len 0 n k 0 b) in ap p same)
+    ∙ every_same n (λ k. p (get_or (range_with_len 0 n) k 0)) p (λ k b. ap p (place k b))
+  where
+    place : (k : ℕ) → k < n → get_or (range_with_len 0 n) k 0 ≡ k
+    place k b = omega (arith, get_or-range_with_len 0 n k 0 b)

@@ -87,7 +87,8 @@ judged_here : {bytes : List ℕ} {at : ℕ} {d : Draft} {piece : Option Record} 
 judged_here {bytes} {at} {d} j h is = sym (judged_turn j.more bytes at d h j.enough is) ∙ j.rest
 
 -- a record that may stand is taken, and it goes on behind it
-pub judging_goes_on : {bytes : List ℕ} {at : ℕ} {d next : Draft} {piece : Option Record} {r : Record} {said : Option Content} {content : Content} {asked : Bool}
+pub judging_goes_on : {bytes : List ℕ} {at : ℕ} {d next : Draft}
+    {piece : Option Record} {r : Record} {said : Option Content} {content : Content} {asked : Bool}
     → Judging bytes at d → at < length bytes → piece ≡ cut image_kinds bytes at → piece ≡ Some r
     → said ≡ content_of bytes r → said ≡ Some content
     → asked ≡ may_stand at d content → asked ≡ true → next ≡ taken d content
@@ -119,7 +120,8 @@ pub judging_silent : {bytes : List ℕ} {at : ℕ} {d : Draft} {piece : Option R
 unfolding tried heard follow
 judging_silent j h is whole says none = rw (whole, ← says, none) at (judged_here j h is)
 
-pub judging_refuses : {bytes : List ℕ} {at : ℕ} {d : Draft} {piece : Option Record} {r : Record} {said : Option Content} {content : Content} {asked : Bool}
+pub judging_refuses : {bytes : List ℕ} {at : ℕ} {d : Draft}
+    {piece : Option Record} {r : Record} {said : Option Content} {content : Content} {asked : Bool}
     → Judging bytes at d → at < length bytes → piece ≡ cut image_kinds bytes at → piece ≡ Some r
     → said ≡ content_of bytes r → said ≡ Some content
     → asked ≡ may_stand at d content → asked ≡ false

@@ -83,5 +83,6 @@ unfolding image_run image_in
 loaded_run bytes m memory {after} {r} e size was =
     let fit = fitting bytes m e in
     let left = was ∙ good_loads bytes m memory fit size in
-    let runs : run_of r.machine after r.budget ≡ run_of_image bytes fit.image = (λ i. run_of (left i).result.machine (left i).memory (left i).result.budget) in
+    let runs : run_of r.machine after r.budget ≡ run_of_image bytes fit.image =
+    (λ i. run_of (left i).result.machine (left i).memory (left i).result.budget) in
     runs ∙ rw fit.good refl

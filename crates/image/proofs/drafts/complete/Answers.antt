@@ -17,5 +17,7 @@ is_described described g = has (vm g) described
 pub returns : goal.returns
 unfolding complete
 returns c =
-    all_from_yields_List (is_described c.args.described) _ _ _ c.all.ensures.ran (YieldsList-from_range 0 c.args.n c.args.n refl (omega arith)) (λ x b q k. search (rules, tests))
+    all_from_yields_List (is_described c.args.described) _ _ _ c.all.ensures.ran
+    (YieldsList-from_range 0 c.args.n c.args.n refl (omega arith))
+    (λ x b q k. search (rules, tests))
     ∙ every_ranged c.args.n (is_described c.args.described)
