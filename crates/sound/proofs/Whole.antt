@@ -8,9 +8,10 @@ use Rattle.isa.specs.Tests.{◌and◌}
 use Rattle.isa.proofs.Tests.{and_left, and_right, and_intro}
 use Rattle.model.specs.declared.Machine.{Machine}
 use Rattle.model.specs.Constants.{GUESTS, PAGES}
-use Rattle.model.specs.Sound.{counts_in_range, page_counts_in_range, lengths_in_range, mailboxes_differ, mailboxes_below, owners_below, senders_below, no_own_sender, parties_differ, parties_below, pages_ascend, pages_below, pages_no_mailbox, no_donation_retrieved, no_page_twice, records_due, guests_blank, pages_blank, places_blank, sound}
+use Rattle.model.specs.Sound.{counts_in_range, page_counts_in_range, lengths_in_range, mailboxes_differ, mailboxes_below, senders_below, no_own_sender, parties_differ, pages_ascend, pages_below, pages_no_mailbox, no_donation_retrieved, no_page_twice, records_due, guests_blank, pages_blank, places_blank, sound}
 use Rattle.model.proofs.Tests.{same_test}
 use borrow.Author.Tests.{leb-true}
+use Rattle.sound.specs.Known.{Counts, Ranges}
 use Rattle.sound.specs.Rows.{Usable}
 use Rattle.sound.proofs.Asked.{mailboxes_fit, pages_fit}
 
@@ -37,16 +38,6 @@ chain : {a b : Bool} {C : Type 0} → a and b ≡ true → (a ≡ true → b ≡
 chain e then = then (and_left _ _ e) (and_right _ _ e)
 
 module _ (m : Machine) where
-  abbrev pub Counts : Bool
-  Counts = counts_in_range m.n m.m and page_counts_in_range m.transactions
-
-  abbrev pub Ranges : Bool
-  Ranges =
-      mailboxes_below m.n m.m m.mailboxes
-      and owners_below m.n m.m m.records
-      and parties_below m.n m.transactions
-      and pages_below m.m m.transactions
-
   abbrev pub Uses : Bool
   Uses =
       mailboxes_differ m.n m.mailboxes
@@ -64,7 +55,7 @@ module _ (m : Machine) where
       and places_blank m.transactions
 
   abbrev Grouped : Bool
-  Grouped = Counts and Ranges and Uses and Rest
+  Grouped = (Counts m) and (Ranges m) and Uses and Rest
 
   -- the same clauses in another order
   grouped : sound m ≡ Grouped
@@ -127,38 +118,38 @@ module _ (m : Machine) where
 
   -- Where the code stops, and where it does not.
 
-  pub counts_stop : Counts ≡ false → false ≡ sound m
-  counts_stop e = sym (grouped ∙ and_stops Counts _ e)
+  pub counts_stop : (Counts m) ≡ false → false ≡ sound m
+  counts_stop e = sym (grouped ∙ and_stops (Counts m) _ e)
 
-  pub ranges_stop : Counts ≡ true → Ranges ≡ false → false ≡ sound m
-  ranges_stop e r = sym (grouped ∙ and_starts Counts _ e ∙ and_stops Ranges _ r)
+  pub ranges_stop : (Counts m) ≡ true → (Ranges m) ≡ false → false ≡ sound m
+  ranges_stop e r = sym (grouped ∙ and_starts (Counts m) _ e ∙ and_stops (Ranges m) _ r)
 
-  pub uses_stop : Counts ≡ true → Ranges ≡ true → Uses ≡ false → false ≡ sound m
-  uses_stop e r u = sym (grouped ∙ and_starts Counts _ e ∙ and_starts Ranges _ r ∙ and_stops Uses _ u)
+  pub uses_stop : (Counts m) ≡ true → (Ranges m) ≡ true → Uses ≡ false → false ≡ sound m
+  uses_stop e r u = sym (grouped ∙ and_starts (Counts m) _ e ∙ and_starts (Ranges m) _ r ∙ and_stops Uses _ u)
 
-  pub rest_decides : Counts ≡ true → Ranges ≡ true → Uses ≡ true → Rest ≡ sound m
-  rest_decides e r u = sym (grouped ∙ and_starts Counts _ e ∙ and_starts Ranges _ r ∙ and_starts Uses _ u)
+  pub rest_decides : (Counts m) ≡ true → (Ranges m) ≡ true → Uses ≡ true → Rest ≡ sound m
+  rest_decides e r u = sym (grouped ∙ and_starts (Counts m) _ e ∙ and_starts (Ranges m) _ r ∙ and_starts Uses _ u)
 
   -- What is known behind each stop.
 
-  pub few_guests : Counts ≡ true → m.n ≤ GUESTS
+  pub few_guests : (Counts m) ≡ true → m.n ≤ GUESTS
   unfolding counts_in_range
   few_guests e = leb-true _ _ (and_left _ _ (and_right _ _ (and_left _ _ e)))
 
-  pub few_pages : Counts ≡ true → m.m ≤ PAGES
+  pub few_pages : (Counts m) ≡ true → m.m ≤ PAGES
   unfolding counts_in_range
   few_pages e = leb-true _ _ (and_right _ _ (and_right _ _ (and_right _ _ (and_left _ _ e))))
 
-  pub page_counts_known : Counts ≡ true → page_counts_in_range m.transactions ≡ true
+  pub page_counts_known : (Counts m) ≡ true → page_counts_in_range m.transactions ≡ true
   page_counts_known e = and_right _ _ e
 
-  pub mailboxes_in_reach : Counts ≡ true → Ranges ≡ true → mailboxes_below m.n PAGES m.mailboxes ≡ true
+  pub mailboxes_in_reach : (Counts m) ≡ true → (Ranges m) ≡ true → mailboxes_below m.n PAGES m.mailboxes ≡ true
   mailboxes_in_reach e r = mailboxes_fit _ _ _ (and_left _ _ r) (few_pages e)
 
-  pub pages_in_reach : Counts ≡ true → Ranges ≡ true → pages_below PAGES m.transactions ≡ true
+  pub pages_in_reach : (Counts m) ≡ true → (Ranges m) ≡ true → pages_below PAGES m.transactions ≡ true
   pages_in_reach e r = pages_fit _ _ (and_right _ _ (and_right _ _ (and_right _ _ r))) (few_pages e)
 
-  pub usable : Counts ≡ true → Ranges ≡ true → Uses ≡ true → Usable m.n m.m m.mailboxes m.transactions m.records
+  pub usable : (Counts m) ≡ true → (Ranges m) ≡ true → Uses ≡ true → Usable m.n m.m m.mailboxes m.transactions m.records
   usable e r u =
       chain r (λ below r.
       chain r (λ owners r.

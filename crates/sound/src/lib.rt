@@ -1,12 +1,14 @@
 // Whether a machine is sound. One function for each clause of the definition, under the clause's name, in a file for each
-// part of the machine that the clause is about; each takes the parts that it reads. The whole is linear in the pages, the
-// guests, and the handles with their places, in what is copied too: a loop hands on single items and references.
+// part of the machine that the clause is about; each takes the parts that it reads, or the machine with what is known of it
+// by then. The whole is linear in the pages, the guests, and the handles with their places, in what is copied too: what a
+// function only reads is lent to it.
 
 #![tactic(auto)]
 
 mod blank;
 mod counts;
 mod deals;
+mod known;
 mod mailboxes;
 mod marks;
 mod messages;
@@ -15,32 +17,31 @@ mod pages;
 mod places;
 mod records;
 
-ghost use Rattle.std.specs.Prelude.{◌≡◌, true, ◌≤◌};
+ghost use Rattle.std.specs.Prelude.{◌≡◌};
 ghost use Rattle.isa.specs.Tests.{◌and◌};
-ghost use Rattle.model.specs.Constants.{GUESTS, PAGES};
-ghost use Rattle.model.specs.Sound.{page_counts_in_range, lengths_in_range, mailboxes_differ, mailboxes_below, owners_below, senders_below, no_own_sender, parties_differ, parties_below, pages_ascend, pages_below, pages_no_mailbox, no_donation_retrieved, no_page_twice, guests_blank, pages_blank, places_blank, sound};
+ghost use Rattle.sound.specs.Known.{Ranges};
+ghost use Rattle.model.specs.Sound.{lengths_in_range, mailboxes_differ, mailboxes_below, owners_below, senders_below, no_own_sender, parties_differ, parties_below, pages_ascend, pages_below, pages_no_mailbox, no_donation_retrieved, no_page_twice, guests_blank, pages_blank, places_blank, sound};
 
+use known::{Counted, Ranged};
 use model::Machine;
 
 // Everything that stands for a guest or a page, but for the current guest and the messages' senders, is in range.
-fn in_range(machine: &Machine) -> bool
-    requires { (machine.now.n ≤ GUESTS) × (page_counts_in_range machine.now.transactions ≡ true) }
-    ensures { result ≡ (mailboxes_below machine.now.n machine.now.m machine.now.mailboxes and owners_below machine.now.n machine.now.m machine.now.records and parties_below machine.now.n machine.now.transactions and pages_below machine.now.m machine.now.transactions) }
+fn in_range(counted: &Counted) -> bool
+    ensures { result ≡ Ranges counted.now.machine.now }
 {
-    mailboxes::mailboxes_below(machine.n, machine.m, &machine.mailboxes)
+    let machine = counted.machine;
+    mailboxes::mailboxes_below(counted)
         & (owners::owners_below(machine.n, machine.m, &machine.records)
             & (deals::parties_below(machine.n, &machine.transactions)
-                & places::pages_below(machine.m, &machine.transactions)))
+                & places::pages_below(counted)))
 }
 
 // No page has two uses.
-fn uses_differ(machine: &Machine) -> bool
-    requires { (machine.now.n ≤ GUESTS) × (mailboxes_below machine.now.n PAGES machine.now.mailboxes ≡ true) × (page_counts_in_range machine.now.transactions ≡ true) × (pages_below PAGES machine.now.transactions ≡ true) }
-    ensures { result ≡ (mailboxes_differ machine.now.n machine.now.mailboxes and pages_no_mailbox machine.now.n machine.now.mailboxes machine.now.transactions and no_page_twice machine.now.transactions) }
+fn uses_differ(ranged: &Ranged) -> bool
+    ensures { result ≡ (mailboxes_differ ranged.now.machine.now.n ranged.now.machine.now.mailboxes and pages_no_mailbox ranged.now.machine.now.n ranged.now.machine.now.mailboxes ranged.now.machine.now.transactions and no_page_twice ranged.now.machine.now.transactions) }
 {
-    mailboxes::mailboxes_differ(machine.n, &machine.mailboxes)
-        & (places::pages_no_mailbox(machine.n, &machine.mailboxes, &machine.transactions)
-            & places::no_page_twice(&machine.transactions))
+    mailboxes::mailboxes_differ(ranged)
+        & (places::pages_no_mailbox(ranged) & places::no_page_twice(ranged))
 }
 
 // The waiting messages.
@@ -53,13 +54,12 @@ fn messages_sound(machine: &Machine) -> bool
 }
 
 // What is left of the transactions' clauses.
-fn deals_sound(machine: &Machine) -> bool
-    requires { page_counts_in_range machine.now.transactions ≡ true }
-    ensures { result ≡ (parties_differ machine.now.transactions and pages_ascend machine.now.transactions and no_donation_retrieved machine.now.transactions) }
+fn deals_sound(counted: &Counted) -> bool
+    ensures { result ≡ (parties_differ counted.now.machine.now.transactions and pages_ascend counted.now.machine.now.transactions and no_donation_retrieved counted.now.machine.now.transactions) }
 {
+    let machine = counted.machine;
     deals::parties_differ(&machine.transactions)
-        & (places::pages_ascend(&machine.transactions)
-            & deals::no_donation_retrieved(&machine.transactions))
+        & (places::pages_ascend(counted) & deals::no_donation_retrieved(&machine.transactions))
 }
 
 // Unused places.
@@ -84,13 +84,15 @@ pub fn is_sound(machine: &Machine) -> bool
     {
         return false;
     }
-    if !in_range(machine) {
+    let counted = Counted { machine };
+    if !in_range(&counted) {
         return false;
     }
-    if !uses_differ(machine) {
+    let ranged = Ranged { machine };
+    if !uses_differ(&ranged) {
         return false;
     }
     (machine.current.0 < machine.n)
         & (messages_sound(machine)
-            & (deals_sound(machine) & (records::records_due(machine) & unused_blank(machine))))
+            & (deals_sound(&counted) & (records::records_due(machine) & unused_blank(machine))))
 }

@@ -1,14 +1,15 @@
 // The pages of the transactions: in rising order, pages of the machine, nobody's mailbox, and in one transaction only.
 
-ghost use Rattle.std.specs.Prelude.{◌≡◌, true, ◌≤◌, ltb};
-ghost use Rattle.model.specs.Constants.{GUESTS, PAGES, PLACES};
+ghost use Rattle.std.specs.Prelude.{◌≡◌, ◌≤◌, ltb};
+ghost use Rattle.model.specs.Constants.{PLACES};
 ghost use Rattle.model.specs.Tests.{every, ascending};
 ghost use Rattle.model.specs.State.{page_at, count_of};
-ghost use Rattle.model.specs.Sound.{page_counts_in_range, mailboxes_below, pages_ascend, pages_below, pages_no_mailbox, no_page_twice};
+ghost use Rattle.model.specs.Sound.{pages_ascend, pages_below, pages_no_mailbox, no_page_twice};
 
+use crate::known::{Counted, Ranged};
 use crate::marks;
 use crate::pages::{held, set_held};
-use model::{Mailbox, Transaction};
+use model::Transaction;
 
 // Each page of the transaction is below the next.
 #[tactic(auto, unfolding(model::specs::Tests::ascending, model::specs::State::page_at))]
@@ -21,11 +22,10 @@ fn ascends(t: &Transaction) -> bool
 
 // So for every handle.
 #[tactic(auto, unfolding(model::specs::Sound::pages_ascend, model::specs::State::transaction_at))]
-pub fn pages_ascend(transactions: &[Transaction; 16]) -> bool
-    requires { page_counts_in_range transactions.now ≡ true }
-    ensures { result ≡ pages_ascend transactions.now }
+pub fn pages_ascend(counted: &Counted) -> bool
+    ensures { result ≡ pages_ascend counted.now.machine.now.transactions }
 {
-    transactions.iter().all(|t| ascends(t))
+    counted.machine.transactions.iter().all(|t| ascends(t))
 }
 
 // Each page of the transaction is among the m pages.
@@ -39,31 +39,33 @@ fn all_below(m: u8, t: &Transaction) -> bool
 
 // So for every handle.
 #[tactic(auto, unfolding(model::specs::Sound::each_page, model::specs::Sound::pages_below, model::specs::State::transaction_at))]
-pub fn pages_below(m: u8, transactions: &[Transaction; 16]) -> bool
-    requires { page_counts_in_range transactions.now ≡ true }
-    ensures { result ≡ pages_below m transactions.now }
+pub fn pages_below(counted: &Counted) -> bool
+    ensures { result ≡ pages_below counted.now.machine.now.m counted.now.machine.now.transactions }
 {
-    transactions.iter().all(|t| all_below(m, t))
+    let machine = counted.machine;
+    machine.transactions.iter().all(|t| all_below(machine.m, t))
 }
 
 // No page of a transaction has a mailbox's mark.
 #[tactic(auto, unfolding(model::specs::Sound::each_page, model::specs::State::transaction_at))]
-pub fn pages_no_mailbox(n: u8, boxes: &[Mailbox; 8], transactions: &[Transaction; 16]) -> bool
-    requires { (n ≤ GUESTS) × (mailboxes_below n PAGES boxes.now ≡ true) × (page_counts_in_range transactions.now ≡ true) × (pages_below PAGES transactions.now ≡ true) }
-    ensures { result ≡ pages_no_mailbox n boxes.now transactions.now }
+pub fn pages_no_mailbox(ranged: &Ranged) -> bool
+    ensures { result ≡ pages_no_mailbox ranged.now.machine.now.n ranged.now.machine.now.mailboxes ranged.now.machine.now.transactions }
 {
-    let seen = marks::box_marks(n, boxes);
-    transactions.iter().all(|t| marks::fresh_pages(&seen, t))
+    let machine = ranged.machine;
+    let seen = marks::box_marks(machine.n, &machine.mailboxes);
+    machine
+        .transactions
+        .iter()
+        .all(|t| marks::fresh_pages(&seen, t))
 }
 
 // No page of a transaction has the mark of a transaction before it.
 #[tactic(auto, unfolding(crate::specs::Marks::held_marks, model::specs::Sound::no_page_twice, model::specs::State::transaction_at))]
-pub fn no_page_twice(transactions: &[Transaction; 16]) -> bool
-    requires { (page_counts_in_range transactions.now ≡ true) × (pages_below PAGES transactions.now ≡ true) }
-    ensures { result ≡ no_page_twice transactions.now }
+pub fn no_page_twice(ranged: &Ranged) -> bool
+    ensures { result ≡ no_page_twice ranged.now.machine.now.transactions }
 {
     let mut seen = [false; 64];
-    for t in transactions {
+    for t in &ranged.machine.transactions {
         if !marks::fresh_pages(&seen, t) {
             return false;
         }
