@@ -20,7 +20,7 @@ mod records;
 ghost use Rattle.std.specs.Prelude.{◌≡◌};
 ghost use Rattle.isa.specs.Tests.{◌and◌};
 ghost use Rattle.sound.specs.Known.{Ranges};
-ghost use Rattle.model.specs.Sound.{lengths_in_range, mailboxes_differ, mailboxes_below, owners_below, senders_below, no_own_sender, parties_differ, parties_below, pages_ascend, pages_below, pages_no_mailbox, no_donation_retrieved, no_page_twice, guests_blank, pages_blank, places_blank, sound};
+ghost use Rattle.model.specs.Sound.{lengths_in_range, mailboxes_differ, senders_below, no_own_sender, parties_differ, pages_ascend, pages_no_mailbox, no_donation_retrieved, no_page_twice, guests_blank, pages_blank, places_blank, sound};
 
 use known::{Counted, Ranged};
 use model::Machine;
@@ -94,5 +94,5 @@ pub fn is_sound(machine: &Machine) -> bool
     }
     (machine.current.0 < machine.n)
         & (messages_sound(machine)
-            & (deals_sound(&counted) & (records::records_due(machine) & unused_blank(machine))))
+            & (deals_sound(&counted) & (records::records_due(&ranged) & unused_blank(machine))))
 }
