@@ -1,5 +1,4 @@
 -- Theorems about images, and the laws that the proofs of the functions share.
-pub mod Opened
 pub mod Computed
 pub mod Cutting
 pub mod Reading

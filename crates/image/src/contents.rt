@@ -6,7 +6,7 @@ ghost use Rattle.image.specs.Contents.{content_of};
 use crate::{BUDGET, COUNTS, Content, DESCRIBED, OWNED, Record, WORDS, bytes};
 
 // What the record says, if its payload has its kind's form: of kind 4, an address and one or more whole words.
-#[tactic(auto, unfolding(crate::specs::Contents::content_of, crate::specs::Contents::has_form, crate::specs::Contents::has_words, crate::proofs::Opened::joined_tests))]
+#[tactic(auto, unfolding(crate::specs::Contents::content_of, crate::specs::Contents::has_form, crate::specs::Contents::has_words, isa::proofs::Tests::joined))]
 pub fn content_of(bytes: &[u8], whole: Record) -> Option<Content>
     requires { whole.payload + whole.size ≤ length bytes.now }
     ensures { result ≡ content_of bytes.now whole }

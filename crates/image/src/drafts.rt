@@ -9,7 +9,7 @@ use crate::{Content, Draft};
 use model::{Machine, Mailbox, Mode, PageId, VmId, VmSet};
 
 // Kind 1: 2 to 8 guests, and pages for two mailboxes each up to 64.
-#[tactic(auto, unfolding(model::specs::Sound::counts_in_range, crate::proofs::Opened::joined_tests))]
+#[tactic(auto, unfolding(model::specs::Sound::counts_in_range, isa::proofs::Tests::joined))]
 fn counts_fit(n: u16, m: u16) -> bool
     ensures { result ≡ counts_in_range n m }
 {
@@ -59,7 +59,7 @@ impl Draft {
     // What a record may say.
 
     // Whether this is a page that has no use so far.
-    #[tactic(auto, unfolding(model::specs::Sound::if_owned, model::specs::State::record_at, crate::specs::Drafts::unused, crate::proofs::Opened::joined_tests))]
+    #[tactic(auto, unfolding(model::specs::Sound::if_owned, model::specs::State::record_at, crate::specs::Drafts::unused, isa::proofs::Tests::joined))]
     fn unused(&self, p: u16) -> bool
         requires { self.now.machine.m ≤ PAGES }
         ensures { result ≡ unused self.now.machine.m self.now.machine.records p }
@@ -69,7 +69,7 @@ impl Draft {
     }
 
     // Kind 2: a guest that is not described yet, and two pages for its mailboxes.
-    #[tactic(auto, unfolding(crate::specs::Drafts::describable, crate::proofs::Opened::joined_tests))]
+    #[tactic(auto, unfolding(crate::specs::Drafts::describable, isa::proofs::Tests::joined))]
     fn describable(&self, guest: u16, tx: u16, rx: u16) -> bool
         requires { Ranged self.now }
         ensures { result ≡ describable self.now guest tx rx }
@@ -82,7 +82,7 @@ impl Draft {
     }
 
     // Kind 3: a page, and a guest to own it.
-    #[tactic(auto, unfolding(crate::specs::Drafts::ownable, crate::proofs::Opened::joined_tests))]
+    #[tactic(auto, unfolding(crate::specs::Drafts::ownable, isa::proofs::Tests::joined))]
     fn ownable(&self, page: u16, owner: u16) -> bool
         requires { self.now.machine.m ≤ PAGES }
         ensures { result ≡ ownable self.now page owner }
@@ -106,7 +106,7 @@ impl Draft {
     }
 
     // Also in its place: kind 1 first and only there, and nothing behind kind 5.
-    #[tactic(auto, unfolding(model::specs::Tests::agree, crate::specs::Drafts::may_stand, crate::proofs::Opened::joined_tests))]
+    #[tactic(auto, unfolding(model::specs::Tests::agree, crate::specs::Drafts::may_stand, isa::proofs::Tests::joined))]
     pub fn may_stand(&self, at: usize, content: Content) -> bool
         requires { Ranged self.now }
         ensures { result ≡ may_stand at self.now content }
@@ -174,7 +174,7 @@ impl Draft {
     }
 
     // By its kind; words are for the memory, and add nothing here.
-    #[tactic(auto, unfolding(crate::specs::Drafts::fits, crate::specs::Drafts::taken, crate::specs::Drafts::describable, crate::specs::Drafts::ownable, crate::specs::Drafts::unused, model::specs::Sound::counts_in_range, crate::proofs::Opened::joined_tests))]
+    #[tactic(auto, unfolding(crate::specs::Drafts::fits, crate::specs::Drafts::taken, crate::specs::Drafts::describable, crate::specs::Drafts::ownable, crate::specs::Drafts::unused, model::specs::Sound::counts_in_range, isa::proofs::Tests::joined))]
     pub fn taken(self, content: Content) -> Draft
         requires { Ranged self × (fits self content ≡ true) }
         ensures { result ≡ taken self content }

@@ -21,7 +21,7 @@ fn lay_words(bytes: &[u8], from: usize, count: usize, address: u32, mem: &mut [u
 }
 
 // Those of one record, if it has any.
-#[tactic(auto, unfolding(crate::specs::Laying::record_laid, crate::specs::Laying::content_laid, crate::specs::Contents::content_of, crate::specs::Contents::has_words, crate::proofs::Opened::joined_tests))]
+#[tactic(auto, unfolding(crate::specs::Laying::record_laid, crate::specs::Laying::content_laid, crate::specs::Contents::content_of, crate::specs::Contents::has_words, isa::proofs::Tests::joined))]
 fn lay_record(bytes: &[u8], whole: Record, mem: &mut [u32])
     requires { whole.payload + whole.size ≤ length bytes.now }
     ensures { mem.new ≡ record_laid bytes.now whole mem.old }

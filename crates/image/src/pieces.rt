@@ -6,7 +6,7 @@ ghost use Rattle.image.specs.Pieces.{image_kinds, cut};
 use crate::{BUDGET, COUNTS, DESCRIBED, OWNED, Record, WORDS, bytes};
 
 // The record at an offset, if it is whole and of one of the kinds.
-#[tactic(auto, unfolding(crate::specs::Pieces::cut, crate::specs::Pieces::record_from, crate::specs::Pieces::end_of, crate::proofs::Opened::joined_tests))]
+#[tactic(auto, unfolding(crate::specs::Pieces::cut, crate::specs::Pieces::record_from, crate::specs::Pieces::end_of, isa::proofs::Tests::joined))]
 fn cut(kinds: &[u16], bytes: &[u8], at: usize) -> Option<Record>
     requires { at ≤ length bytes.now }
     ensures { result ≡ cut kinds.now bytes.now at }
