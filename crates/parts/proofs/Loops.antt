@@ -1,4 +1,5 @@
--- The laws of loops that count up: one that tests every number, and one that sets the values at n places.
+-- The laws of loops that count up: one that tests every number, and one that sets the values at n places. Then of lists: a list
+-- asked by number, and what a chain of iterators that ends in `.all(..)` answers.
 use Prim.Native.Nat.{ℕ, zero, suc, ◌+◌, ◌-◌, ◌≤◌, ◌<◌}
 use Rattle.std.proofs.Common.{arith}
 use mathlib.Core.Path.{◌≡◌, refl, sym, ap, ◌∙◌}
