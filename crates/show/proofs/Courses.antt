@@ -1,43 +1,24 @@
 -- Which course an image takes, by what the code tests; and what loading one that fits leaves, so what its run is.
 -- Assumes nothing.
-use Prim.Native.Nat.{ℕ, ◌*◌, ◌≤◌, ◌<◌}
+use Prim.Native.Nat.{ℕ, ◌*◌, ◌≤◌}
 use Rattle.std.specs.Prelude.{Ok, Err}
+use native.Mathlib.Omega.{arith}
 use mathlib.Core.Path.{◌≡◌, refl, sym, ap, ◌∙◌}
 use mathlib.Core.Bool.{Bool, true, false, false≢true, cond}
 use mathlib.Core.List.{List}
 use lib.ListN.{length}
 use lib.Dec.{ltb}
-use borrow.Author.Tests.{lt-ltb, le-ltb, ltb-false, eq-eqb}
+use borrow.Author.Tests.{ltb-false, eq-eqb}
 use Rattle.model.specs.declared.Loaded.{Loaded}
 use Rattle.model.specs.declared.Answer.TheVariants.{Done}
 use Rattle.model.specs.Constants.{PAGE}
 use Rattle.model.specs.Entries.{run_of}
 use Rattle.image.specs.declared.Image.{Image}
-use Rattle.image.specs.declared.Broken.{Broken}
 use Rattle.image.specs.Judging.{Judged, judged_of}
 use Rattle.image.specs.Laying.{memory_of}
 use Rattle.image.specs.Loading.{left_by_load, loaded_into, loaded_by, load_of}
-use Rattle.show.specs.declared.course.Course.TheVariants.{TooLarge, Faulty, Fits}
-use Rattle.show.specs.Course.{BYTES, MOST, judged_course, course_of, image_in, run_of_image, image_run}
-
--- The ways of the code.
-
-pub too_long : (bytes : List ℕ) → BYTES < length bytes → TooLarge ≡ course_of bytes
-unfolding course_of
-too_long bytes h = rw (lt-ltb BYTES (length bytes) h)
-
-module _ (bytes : List ℕ) {judged : Judged} (was : judged ≡ judged_of bytes) (short : length bytes ≤ BYTES) where
-  pub is_faulty : {bad : Broken} → judged ≡ Err bad → Faulty bad.offset ≡ course_of bytes
-  unfolding course_of judged_course
-  is_faulty e = rw (le-ltb BYTES (length bytes) short, ← was, e)
-
-  pub too_wide : {image : Image} → judged ≡ Ok image → MOST < image.machine.m → TooLarge ≡ course_of bytes
-  unfolding course_of judged_course
-  too_wide {image} e h = rw (le-ltb BYTES (length bytes) short, ← was, e, lt-ltb MOST image.machine.m h)
-
-  pub is_fit : {image : Image} → judged ≡ Ok image → image.machine.m ≤ MOST → Fits image.machine.m ≡ course_of bytes
-  unfolding course_of judged_course
-  is_fit {image} e h = rw (le-ltb BYTES (length bytes) short, ← was, e, le-ltb MOST image.machine.m h)
+use Rattle.show.specs.declared.course.Refusal.TheVariants.{TooLarge}
+use Rattle.show.specs.Course.{BYTES, MOST, Course, judged_course, course_of, image_in, run_of_image, image_run}
 
 -- An image that fits is good, and its machine has so many pages.
 pub record Fitting (judged : Judged) (m : ℕ) : Type 0 where
@@ -46,23 +27,27 @@ pub record Fitting (judged : Judged) (m : ℕ) : Type 0 where
   pub pages : image.machine.m ≡ m
   pub few : m ≤ MOST
 
-by_pages : (image : Image) (m : ℕ) (wide : Bool) → ltb MOST image.machine.m ≡ wide
-    → cond wide TooLarge (Fits image.machine.m) ≡ Fits m
-    → Fitting (Ok image) m
-by_pages image m true w e = absurd (false≢true cc)
-by_pages image m false w e =
-    let same : image.machine.m ≡ m = cc in
-    record { image = image; good = refl; pages = same; few = rw same at (ltb-false MOST image.machine.m w) }
+-- a test that refuses did not
+passed : (refuses : Bool) (course : Course) {m : ℕ} → cond refuses (Err TooLarge) course ≡ Ok m → (refuses ≡ false) × (course ≡ Ok m)
+passed true course e = absurd (false≢true cc)
+passed false course e = (refl, e)
 
-by_verdict : (long : Bool) (judged : Judged) (m : ℕ) → cond long TooLarge (judged_course judged) ≡ Fits m → Fitting judged m
+judged_fit : (judged : Judged) {m : ℕ} → judged_course judged ≡ Ok m → Fitting judged m
 unfolding judged_course
-by_verdict true judged m e = absurd (false≢true cc)
-by_verdict false (Err bad) m e = absurd (false≢true cc)
-by_verdict false (Ok image) m e = by_pages image m (ltb MOST image.machine.m) refl e
+judged_fit (Err bad) e = absurd (false≢true cc)
+judged_fit (Ok image) {m} e =
+    let few = passed (ltb MOST image.machine.m) (Ok image.machine.m) e in
+    let fits : Ok image.machine.m ≡ Ok m = few.1 in
+    let same : image.machine.m ≡ m = cc in
+    record { image = image; good = refl; pages = same; few = rw same at (ltb-false MOST image.machine.m few.0) }
 
-pub fitting : (bytes : List ℕ) (m : ℕ) → course_of bytes ≡ Fits m → Fitting (judged_of bytes) m
+pub fitting : (bytes : List ℕ) (m : ℕ) → course_of bytes ≡ Ok m → Fitting (judged_of bytes) m
 unfolding course_of
-fitting bytes m e = by_verdict (ltb BYTES (length bytes)) (judged_of bytes) m e
+fitting bytes m e = judged_fit (judged_of bytes) (passed (ltb BYTES (length bytes)) (judged_course (judged_of bytes)) e).1
+
+-- the largest machine's memory has room for it
+pub has_room : (bytes : List ℕ) {m room : ℕ} → course_of bytes ≡ Ok m → PAGE * MOST ≡ room → PAGE * m ≤ room
+has_room bytes e h = omega (arith, (fitting bytes _ e).few, h)
 
 -- What loading it leaves, whatever the memory held.
 pub good_loads : (bytes : List ℕ) (m : ℕ) (memory : List ℕ) (fit : Fitting (judged_of bytes) m) → length memory ≡ PAGE * m
@@ -75,7 +60,7 @@ good_loads bytes m memory fit size =
     let fits : length memory ≡ PAGE * fit.image.machine.m = size ∙ ap (λ (k : ℕ). PAGE * k) (sym fit.pages) in
     rw fit.good (rw (eq-eqb (length memory) _ fits) (rw fits))
 
-pub loaded_run : (bytes : List ℕ) (m : ℕ) (memory : List ℕ) {after : List ℕ} {r : Loaded} → course_of bytes ≡ Fits m
+pub loaded_run : (bytes : List ℕ) (m : ℕ) (memory : List ℕ) {after : List ℕ} {r : Loaded} → course_of bytes ≡ Ok m
     → length memory ≡ PAGE * m
     → left_by_load r after ≡ load_of bytes memory
     → run_of r.machine after r.budget ≡ image_run bytes

@@ -24,14 +24,14 @@ use Rattle.image.specs.Worked.{counts, guest, owner, budget, program, example}
 use Rattle.image.proofs.Loads.{loaded_passes}
 use Rattle.lines.specs.Text.{glyph_of, digits, places_of, decimal, hex8, mode_word, line_text, end_text, refused_text, broken_text}
 use Rattle.lines.specs.Examples.{example_line}
-use Rattle.show.specs.declared.course.Course.TheVariants.{Fits}
+use Rattle.std.specs.Prelude.{Ok}
 use Rattle.show.specs.Course.{judged_course, course_of, image_in, image_run}
 use Rattle.show.specs.Told.{lines_text, lines_if, calls_from, rest_of}
 use Rattle.show.specs.Printed.{image_state, image_budget, printed_by, printed_of, PrintsItsRun, idle, PrintedExamples}
 use Rattle.show.proofs.Courses.{fitting, good_loads}
 
 -- the machine of an image that fits passes the check with its memory
-image_passes : (bytes : List ℕ) (m : ℕ) → course_of bytes ≡ Fits m
+image_passes : (bytes : List ℕ) (m : ℕ) → course_of bytes ≡ Ok m
     → check_of (image_state bytes).machine (image_state bytes).memory ≡ Done
 unfolding answer_number image_in
 image_passes bytes m e =

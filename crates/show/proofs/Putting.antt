@@ -1,9 +1,9 @@
 -- A piece of a run's text: what it has so far, and what is to come behind that, is the whole. A turn adds its line, or the last
 -- line.
 -- Assumes nothing.
-use Rattle.model.specs.ToCall.{made, line_of}
-use Rattle.std.specs.Prelude.{Option, None, Some}
-use Rattle.model.specs.declared.MadeCall.{MadeCall}
+use Rattle.model.specs.ToCall.{made, run_to_call_of, line_of}
+use Rattle.std.specs.Prelude.{None, Some}
+use Rattle.model.specs.declared.RanToCall.{RanToCall}
 use Prim.Native.Nat.{ℕ, ◌+◌, ◌-◌, ◌≤◌, ◌<◌}
 use mathlib.Core.Path.{◌≡◌, refl, sym, ap, ◌∙◌}
 use mathlib.Core.Bool.{Bool, true, false}
@@ -21,7 +21,7 @@ use Rattle.lines.specs.Text.{line_text, end_text}
 use Rattle.show.specs.declared.run.Piece.{Piece}
 use Rattle.show.specs.Ended.{ending, ending_of}
 use Rattle.show.specs.Told.{lines_text, Rest, rest, behind, rest_of, piece_then, PutPiece}
-use Rattle.show.proofs.Turns.{line_alone, behind_behind, Gone}
+use Rattle.show.proofs.Turns.{line_alone, behind_behind, Gone, turn}
 
 -- the text up to the end of what was laid
 laid_taken : (before : List ℕ) (at : ℕ) (text : List ℕ) {after : List ℕ} {end : ℕ} → at ≤ length before
@@ -58,17 +58,19 @@ begins budget left m memory out shaped within =
 
 module _ {whole : Rest} {budget first size left : ℕ} {m : Machine} {memory out : List ℕ} {at : ℕ}
     (putting : Putting whole budget first size left m memory out at)
-    {after : Machine} {words : List ℕ} {count : ℕ} {call : Option MadeCall}
-    (gone : Gone budget left (rest_of budget left m memory) after words count call) where
+    {r : RanToCall} {words : List ℕ} (ran : record { result = r; memory = words } ≡ run_to_call_of m memory left) where
+  pub gone : Gone budget left (rest_of budget left m memory) r.machine words r.count r.call
+  gone = turn budget left putting.within m putting.shaped memory ran
+
   -- the turn came to a call
-  pub goes_on : {g : VmId} {w : ℕ} {next : List ℕ} {end : ℕ} → call ≡ Some (made g w)
-      → Laid out at (line_text (line_of (budget - (left - count)) g w after)) next end
-      → Putting whole budget first size (left - count) after words next end
+  pub goes_on : {g : VmId} {w : ℕ} {next : List ℕ} {end : ℕ} → r.call ≡ Some (made g w)
+      → Laid out at (line_text (line_of (budget - (left - r.count)) g w r.machine)) next end
+      → Putting whole budget first size (left - r.count) r.machine words next end
   unfolding line_for
   goes_on {g} {w} {next} {end} made laid =
-      let some : 0 < count = (gone.called g w made).0 in
-      let line = line_text (line_of (budget - (left - count)) g w after) in
-      let told : lines_text (line_for (budget - (left - count)) call after) ≡ line = rw made (line_alone _) in
+      let some : 0 < r.count = (gone.called g w made).0 in
+      let line = line_text (line_of (budget - (left - r.count)) g w r.machine) in
+      let told : lines_text (line_for (budget - (left - r.count)) r.call r.machine) ≡ line = rw made (line_alone _) in
       record {
         shaped = gone.shaped;
         within = omega (arith, putting.within);
@@ -77,24 +79,25 @@ module _ {whole : Rest} {budget first size left : ℕ} {m : Machine} {memory out
         long = laid.kept ∙ putting.long;
         inside = omega (arith, laid.within, laid.kept, putting.long);
         same =
-            ap (λ (text : List ℕ). behind text (rest_of budget (left - count) after words))
+            ap (λ (text : List ℕ). behind text (rest_of budget (left - r.count) r.machine words))
             (laid_taken out at line (omega (arith, putting.inside, putting.long)) laid)
-            ∙ behind_behind (take at out) line (rest_of budget (left - count) after words)
-            ∙ ap (λ (text : List ℕ). behind (take at out) (behind text (rest_of budget (left - count) after words))) (sym told)
+            ∙ behind_behind (take at out) line (rest_of budget (left - r.count) r.machine words)
+            ∙ ap (λ (text : List ℕ). behind (take at out) (behind text (rest_of budget (left - r.count) r.machine words))) (sym told)
             ∙ ap (behind (take at out)) (sym gone.then_rest)
             ∙ putting.same;
       }
 
   -- it came to none
-  pub ends : {next : List ℕ} {end : ℕ} → call ≡ None → Laid out at (end_text (budget - (left - count)) after.mode) next end
-      → rest (take end next) (ending (budget - (left - count)) after) ≡ whole
+  pub ends : {next : List ℕ} {end : ℕ} → r.call ≡ None
+      → Laid out at (end_text (budget - (left - r.count)) r.machine.mode) next end
+      → rest (take end next) (ending (budget - (left - r.count)) r.machine) ≡ whole
   unfolding line_for lines_text
   ends {next} {end} none laid =
-      let told : lines_text (line_for (budget - (left - count)) call after) ≡ [] = rw none in
-      ap (λ (text : List ℕ). rest text (ending (budget - (left - count)) after))
-      (laid_taken out at (end_text (budget - (left - count)) after.mode) (omega (arith, putting.inside, putting.long)) laid)
+      let told : lines_text (line_for (budget - (left - r.count)) r.call r.machine) ≡ [] = rw none in
+      ap (λ (text : List ℕ). rest text (ending (budget - (left - r.count)) r.machine))
+      (laid_taken out at (end_text (budget - (left - r.count)) r.machine.mode) (omega (arith, putting.inside, putting.long)) laid)
       ∙ ap (behind (take at out)) (sym (gone.last none))
-      ∙ ap (λ (text : List ℕ). behind (take at out) (behind text (rest_of budget (left - count) after words))) (sym told)
+      ∙ ap (λ (text : List ℕ). behind (take at out) (behind text (rest_of budget (left - r.count) r.machine words))) (sym told)
       ∙ ap (behind (take at out)) (sym gone.then_rest)
       ∙ putting.same
 

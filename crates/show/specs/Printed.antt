@@ -1,5 +1,5 @@
 -- All that the bench prints of an image; and worked cases of it, computed. Proved in `proofs/Printed.antt`.
-use Rattle.std.specs.Prelude.{ℕ, ◌*◌, ◌≡◌, List, [], ◌++◌}
+use Rattle.std.specs.Prelude.{ℕ, ◌*◌, ◌≡◌, List, [], ◌++◌, Ok, Err}
 use Rattle.model.specs.declared.Mode.TheVariants.{Normal, Fault, Halted}
 use Rattle.model.specs.Constants.{PAGE}
 use Rattle.model.specs.State.{State, state}
@@ -9,9 +9,8 @@ use Rattle.image.specs.Laying.{memory_of}
 use Rattle.image.specs.Worked.{counts, guest, budget, example}
 use Rattle.lines.specs.Text.{line_text, end_text, refused_text, broken_text}
 use Rattle.lines.specs.Examples.{example_line}
-use Rattle.show.specs.declared.course.Course.{Course}
-use Rattle.show.specs.declared.course.Course.TheVariants.{TooLarge, Faulty, Fits}
-use Rattle.show.specs.Course.{course_of, image_in, image_run}
+use Rattle.show.specs.declared.course.Refusal.TheVariants.{TooLarge, Broken}
+use Rattle.show.specs.Course.{Course, course_of, image_in, image_run}
 use Rattle.show.specs.Told.{lines_text, rest_of}
 
 -- the state that a good image means, and its budget
@@ -24,9 +23,9 @@ image_budget bytes = (image_in (judged_of bytes)).budget
 
 -- a refusal, or the text of the whole run
 unfoldable pub printed_by : Course → List ℕ → List ℕ
-printed_by TooLarge bytes = refused_text 1
-printed_by (Faulty offset) bytes = broken_text offset
-printed_by (Fits m) bytes =
+printed_by (Err TooLarge) bytes = refused_text 1
+printed_by (Err (Broken broken)) bytes = broken_text broken.offset
+printed_by (Ok m) bytes =
     (rest_of (image_budget bytes) (image_budget bytes) (image_state bytes).machine (image_state bytes).memory).text
 
 unfoldable pub printed_of : List ℕ → List ℕ
@@ -35,7 +34,7 @@ printed_of bytes = printed_by (course_of bytes) bytes
 -- Of an image that fits: a line for each call of its run, and the last line, with the number of its steps and its last mode.
 abbrev pub PrintsItsRun : Type 0
 PrintsItsRun =
-    (bytes : List ℕ) (m : ℕ) → course_of bytes ≡ Fits m
+    (bytes : List ℕ) (m : ℕ) → course_of bytes ≡ Ok m
     → printed_of bytes
     ≡ lines_text (lines_from 0 (image_budget bytes) (image_state bytes))
     ++ end_text (image_run bytes).result.count (image_run bytes).result.machine.mode

@@ -5,30 +5,36 @@ ghost use Rattle.show.specs.Course.{course_of};
 
 use image::{Broken, Image};
 
-// It is too large, or its machine's memory is; or it is broken, at this offset; or its machine has so many pages, and runs.
-#[derive(Clone, Copy)]
-pub enum Course {
+// Why an image is not run: it is too large, or its machine's memory is; or it is broken.
+#[derive(Clone, Copy, PartialEq, Eq)]
+pub enum Refusal {
     TooLarge,
-    Faulty { offset: usize },
-    Fits { m: u8 },
+    Broken(Broken),
 }
 
-// The refusals in their order: by size, by the first bad record, by the number of pages.
-#[tactic(auto, using(crate::proofs::Courses::too_long, crate::proofs::Courses::is_faulty, crate::proofs::Courses::too_wide, crate::proofs::Courses::is_fit))]
-pub fn chosen(bytes: &[u8]) -> Course
+// A broken image is refused as it is.
+impl From<Broken> for Refusal {
+    ghost use Rattle.show.specs.declared.course.Refusal.{Refusal};
+
+    ghost from_gives = { λ broken refusal. refusal ≡ Refusal.Broken broken };
+
+    fn from(broken: Broken) -> Refusal {
+        Refusal::Broken(broken)
+    }
+}
+
+// The number of pages of the image's machine, if it is run; or the refusal, in their order: by size, by the first bad record, by
+// the number of pages.
+#[tactic(auto, unfolding(crate::specs::Course::course_of, crate::specs::Course::judged_course))]
+pub fn chosen(bytes: &[u8]) -> Result<u8, Refusal>
     ensures { result ≡ course_of bytes.now }
 {
     if 65536 < bytes.len() {
-        return Course::TooLarge;
+        return Err(Refusal::TooLarge);
     }
-    match image::judge(bytes) {
-        Err(Broken { offset }) => Course::Faulty { offset },
-        Ok(Image { machine, .. }) => {
-            let m = machine.m;
-            if 16 < m {
-                return Course::TooLarge;
-            }
-            Course::Fits { m }
-        }
+    let Image { machine, .. } = image::judge(bytes)?;
+    if 16 < machine.m {
+        return Err(Refusal::TooLarge);
     }
+    Ok(machine.m)
 }

@@ -11,7 +11,7 @@ ghost use Rattle.show.specs.Ended.{ending_of};
 ghost use Rattle.show.specs.Reached.{reached};
 ghost use Rattle.show.specs.Told.{PutPiece};
 
-use model::{Machine, NextCall, VmId};
+use model::{Machine, MadeCall};
 use std::io;
 use std::io::{Print, Stdout};
 
@@ -34,13 +34,12 @@ pub struct Piece {
 
 // Puts the line of a call into the buffer, with the caller's registers as the call left them.
 #[tactic(auto, unfolding(model::specs::ToCall::line_of, model::specs::State::register, model::specs::State::registers_at))]
-fn put_call(out: &mut [u8], at: usize, step: u32, caller: VmId, r0: u32, after: Machine) -> usize
-    requires { (at + LINE ≤ length out.old) × (caller.0 < GUESTS) }
-    ensures { Laid out.old at (line_text (line_of step caller r0 after)) out.new result }
+fn put_call(out: &mut [u8], at: usize, step: u32, call: MadeCall, after: &Machine) -> usize
+    requires { (at + LINE ≤ length out.old) × (call.caller.0 < GUESTS) }
+    ensures { Laid out.old at (line_text (line_of step call.caller call.r0 after.now)) out.new result }
 {
-    let g = caller.0 as usize;
-    let own = after.registers[g];
-    let r = own.r;
+    let MadeCall { caller, r0 } = call;
+    let r = after.registers[caller.0 as usize].r;
     lines::put_line(out, at, step, caller, r0, r[0], r[2])
 }
 
@@ -53,33 +52,27 @@ fn put_piece(machine: Machine, mem: &mut [u32], budget: u32, left: u32, out: &mu
     ensures within { result.left ≤ left }
     ensures state { state result.machine mem.new ≡ reached machine mem.old (left - result.left) }
 {
-    let mut m = machine;
-    let mut rest = left;
-    let mut at: usize = 0;
-    while 64 <= out.len() - at {
-        let leg = creamtally::run_to_call(m, mem, rest);
-        let after = leg.machine;
-        m = after;
-        rest -= leg.count;
-        let call = leg.call;
-        let NextCall::Made { caller, r0 } = call else {
-            let mode = m.mode;
-            let end = lines::put_end(out, at, budget - rest, mode);
+    let mut piece = Piece {
+        end: 0,
+        machine,
+        left,
+        more: true,
+    };
+    while 64 <= out.len() - piece.end {
+        let leg = creamtally::run_to_call(piece.machine, mem, piece.left);
+        piece.machine = leg.machine;
+        piece.left -= leg.count;
+        let Some(call) = leg.call else {
+            let end = lines::put_end(out, piece.end, budget - piece.left, piece.machine.mode);
             return Piece {
-                end: end,
-                machine: m,
-                left: rest,
+                end,
                 more: false,
+                ..piece
             };
         };
-        at = put_call(out, at, budget - rest, caller, r0, m);
+        piece.end = put_call(out, piece.end, budget - piece.left, call, &piece.machine);
     }
-    Piece {
-        end: at,
-        machine: m,
-        left: rest,
-        more: true,
-    }
+    piece
 }
 
 // Room for many lines.
@@ -100,10 +93,8 @@ pub fn play(to: Stdout, machine: Machine, mem: &mut [u32], budget: u32) -> io::R
     let mut left = budget;
     loop {
         let piece = put_piece(m, mem, budget, left, &mut out);
-        let end = piece.end;
-        to.write_all(&out[..end])?;
-        let after = piece.machine;
-        m = after;
+        to.write_all(&out[..piece.end])?;
+        m = piece.machine;
         left = piece.left;
         if !piece.more {
             return Ok(Ending {

@@ -6,13 +6,13 @@ use Rattle.show.specs.Reached.{reached}
 use Rattle.show.specs.Told.{rest_of}
 use Rattle.show.proofs.run.play.Given as goal
 
-abbrev pub invariant-loop-after : goal.invariant-loop-after
-invariant-loop-after l =
+abbrev pub invariant-loop-m : goal.invariant-loop-m
+invariant-loop-m l =
     ((rest_of l.budget l.left l.m l.mem).end ≡ (rest_of l.budget l.budget l.initial.m l.initial.mem).end)
     × (l.left ≤ l.budget)
     × (length l.mem ≡ length l.initial.mem)
     × (length l.out ≡ 8192)
     × (state l.m l.mem ≡ reached l.initial.m l.initial.mem (l.budget - l.left))
 
-abbrev pub decreases-loop-after : goal.decreases-loop-after
-decreases-loop-after l = l.left
+abbrev pub decreases-loop-m : goal.decreases-loop-m
+decreases-loop-m l = l.left
