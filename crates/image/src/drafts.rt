@@ -2,19 +2,10 @@
 
 ghost use Rattle.std.specs.Prelude.{◌≡◌, true, ◌≤◌, ◌<◌};
 ghost use Rattle.model.specs.Constants.{GUESTS, PAGES};
-ghost use Rattle.model.specs.Sound.{counts_in_range};
 ghost use Rattle.image.specs.Drafts.{Ranged, begun, unused, describable, ownable, inside, complete, fits, is_counts, may_stand, with_counts, with_guest, with_owner, with_budget, taken};
 
 use crate::{Content, Draft};
 use model::{Machine, Mailbox, Mode, PageId, VmId, VmSet};
-
-// Kind 1: 2 to 8 guests, and pages for two mailboxes each up to 64.
-#[tactic(auto, unfolding(model::specs::Sound::counts_in_range, isa::proofs::Tests::joined))]
-fn counts_fit(n: u16, m: u16) -> bool
-    ensures { result ≡ counts_in_range n m }
-{
-    2 <= n && n <= 8 && 2 * n <= m && m <= 64
-}
 
 // Kind 4: so many words from an address on lie inside the memory of m pages.
 #[tactic(auto, unfolding(crate::specs::Drafts::inside))]
@@ -97,7 +88,7 @@ impl Draft {
         ensures { result ≡ fits self.now content }
     {
         match content {
-            Content::Counts { n, m } => counts_fit(n, m),
+            Content::Counts { n, m } => parts::counts_in_range(n, m),
             Content::Described { guest, tx, rx, .. } => self.describable(guest, tx, rx),
             Content::Owned { page, owner } => self.ownable(page, owner),
             Content::Words { address, count } => inside(self.machine.m, address, count),

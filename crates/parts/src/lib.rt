@@ -22,7 +22,7 @@ ghost use Rattle.model.specs.Constants.{GUESTS};
 ghost use Rattle.model.specs.State.{is_primary};
 ghost use Rattle.model.specs.VmSet.{has, only, with};
 ghost use Rattle.model.specs.Row.{shares, donates, sends, receives, holders, mailbox_row, owned_row, free_row, row, same_record};
-ghost use Rattle.model.specs.Sound.{if_owned};
+ghost use Rattle.model.specs.Sound.{if_owned, counts_in_range};
 
 use model::{Deal, Kind, PageRecord, VmId, VmSet};
 pub use refusal::Refusal;
@@ -35,6 +35,16 @@ pub fn is_primary(g: VmId) -> bool
     ensures { result ≡ is_primary g }
 {
     g == VmId(0)
+}
+
+// The counts of guests and of pages.
+
+// 2 to 8 guests, and pages for two mailboxes each up to 64.
+#[tactic(auto, unfolding(model::specs::Sound::counts_in_range, isa::proofs::Tests::joined))]
+pub fn counts_in_range(n: u16, m: u16) -> bool
+    ensures { result ≡ counts_in_range n m }
+{
+    2 <= n && n <= 8 && 2 * n <= m && m <= 64
 }
 
 // Sets of guests.

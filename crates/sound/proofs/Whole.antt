@@ -2,7 +2,7 @@
 -- has two uses, then the rest. Each asks what those before it have tested.
 use Prim.Native.Nat.{◌≤◌}
 use mathlib.Core.Path.{◌≡◌, sym, ◌∙◌}
-use mathlib.Core.Bool.{Bool, true, false, ◌&&◌}
+use mathlib.Core.Bool.{Bool, true, false}
 use lib.Dec.{ltb}
 use Rattle.isa.specs.Tests.{◌and◌}
 use Rattle.isa.proofs.Tests.{and_left, and_right, and_intro}
@@ -22,11 +22,6 @@ and_stops a b e = rw e
 and_starts : (a b : Bool) → a ≡ true → a and b ≡ b
 unfolding ◌and◌
 and_starts a b e = rw e
-
--- what two functions answered, against what they stand for
-pub both_are : {a b x y : Bool} → x ≡ a → y ≡ b → a and b ≡ (x && y)
-unfolding ◌and◌
-both_are p q = rw (p, q)
 
 -- two tests that pass are one
 infixr 35 ◌both◌

@@ -1,19 +1,12 @@
-// The counts: of guests, of pages, and of a transaction's pages. (Those of a message's words are with the messages.)
+// The counts of the transactions' pages. (Those of guests and pages are asked in `parts`, those of a message's words are with
+// the messages.)
 
 ghost use Rattle.std.specs.Prelude.{◌≡◌, leb};
 ghost use Rattle.isa.specs.Tests.{◌and◌};
 ghost use Rattle.model.specs.Constants.{PLACES};
-ghost use Rattle.model.specs.Sound.{if_live, counts_in_range, page_counts_in_range};
+ghost use Rattle.model.specs.Sound.{if_live, page_counts_in_range};
 
 use model::{Deal, Transaction};
-
-// 2 to 8 guests, and pages for two mailboxes each up to 64.
-#[tactic(auto, unfolding(model::specs::Sound::counts_in_range))]
-pub fn counts_in_range(n: u8, m: u8) -> bool
-    ensures { result ≡ counts_in_range n m }
-{
-    (2 <= n) & ((n <= 8) & ((2 * (n as u32) <= m as u32) & (m <= 64)))
-}
 
 // A live transaction has 1 to 8 pages.
 #[tactic(auto, unfolding(model::specs::Sound::if_live, isa::proofs::Tests::joined))]

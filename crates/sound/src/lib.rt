@@ -19,11 +19,19 @@ mod records;
 
 ghost use Rattle.std.specs.Prelude.{◌≡◌};
 ghost use Rattle.isa.specs.Tests.{◌and◌};
-ghost use Rattle.sound.specs.Known.{Ranges};
+ghost use Rattle.sound.specs.Known.{Counts, Ranges};
 ghost use Rattle.model.specs.Sound.{lengths_in_range, mailboxes_differ, senders_below, no_own_sender, parties_differ, pages_ascend, pages_no_mailbox, no_donation_retrieved, no_page_twice, guests_blank, pages_blank, places_blank, sound};
 
 use known::{Counted, Ranged};
 use model::Machine;
+
+// The counts: of guests, of pages, and of the transactions' pages.
+fn counts_sound(machine: &Machine) -> bool
+    ensures { result ≡ Counts machine.now }
+{
+    parts::counts_in_range(u16::from(machine.n), u16::from(machine.m))
+        & counts::page_counts_in_range(&machine.transactions)
+}
 
 // Everything that stands for a guest or a page, but for the current guest and the messages' senders, is in range.
 fn in_range(counted: &Counted) -> bool
@@ -79,9 +87,7 @@ fn unused_blank(machine: &Machine) -> bool
 pub fn is_sound(machine: &Machine) -> bool
     ensures { result ≡ sound machine.now }
 {
-    if !(counts::counts_in_range(machine.n, machine.m)
-        & counts::page_counts_in_range(&machine.transactions))
-    {
+    if !counts_sound(machine) {
         return false;
     }
     let counted = Counted { machine };
