@@ -4,4 +4,3 @@ pub mod Downward
 pub mod Moves
 pub mod Turns
 pub mod Bursts
-pub mod Switching

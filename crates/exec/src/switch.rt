@@ -40,21 +40,15 @@ fn yielded(r: &mut [u32; 8], caller: VmId) -> Switch
     }
 }
 
-// Run: the tests in their order, and then the guest in R1.
-#[tactic(auto, using(crate::proofs::Switching::run_by_secondary, crate::proofs::Switching::run_of_nobody, crate::proofs::Switching::run_of_primary, crate::proofs::Switching::run_of_secondary), unfolding(parts::specs::Refusal::code_of))]
+// Run: the guest in R1, if the tests pass.
+#[tactic(auto, unfolding(crate::specs::Switch::run_switch, isa::proofs::Tests::joined, model::specs::Reply::need, parts::specs::Refusal::code_of, parts::specs::Refusal::verdict_of))]
 fn to_run(r: &mut [u32; 8], caller: VmId, n: u8) -> Switch
     ensures { switched result r.new ≡ run_switch r.old caller n }
 {
-    if !parts::is_primary(caller) {
-        return refused(r, Refusal::Denied);
+    match numbers::next_guest(caller, r[1], n) {
+        Ok(g) => Switch::To(g),
+        Err(refusal) => refused(r, refusal),
     }
-    let Some(g) = numbers::vm_of(r[1], n) else {
-        return refused(r, Refusal::Invalid);
-    };
-    if parts::is_primary(g) {
-        return refused(r, Refusal::Invalid);
-    }
-    Switch::To(g)
 }
 
 // Yield and Run; every other call is left alone.
