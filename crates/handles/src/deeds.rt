@@ -22,7 +22,7 @@ pub fn transaction_at(machine: Machine, h: Handle) -> Transaction
 }
 
 // Handle h's place holds the transaction new, and the pages of t get the record due.
-#[tactic(auto, unfolding(model::specs::Deeds::settled))]
+#[tactic(auto, unfolding(model::specs::Deeds::recorded, model::specs::Deeds::settled))]
 pub fn settled(
     mut machine: Machine,
     h: Handle,
@@ -34,7 +34,7 @@ pub fn settled(
     ensures { result ≡ settled machine h new t due }
 {
     machine.transactions[h.0 as usize] = new;
-    pages::recorded(&mut machine.records, t, due);
+    pages::set_held(&mut machine.records, &t, due);
     machine
 }
 

@@ -36,8 +36,7 @@ fn in_place(machine: Machine, h: Handle, d: Deal) -> bool
     ensures { result ≡ in_place machine h d }
 {
     let t = deeds::transaction_at(machine, h);
-    let held = &t.pages[..pages::count_of(t) as usize];
-    pages::all_have(&machine.records, held, parts::row(d))
+    pages::all_have(&machine.records, pages::held(&t), parts::row(d))
 }
 
 // The tests behind the look-up, in their order: the caller is the party that may, the retrieved mark is as it must be, and

@@ -2,5 +2,6 @@
 pub mod Sets
 pub mod Loops
 pub mod Named
+pub mod Held
 pub mod Rows
 pub mod Answers

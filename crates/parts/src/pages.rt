@@ -1,11 +1,11 @@
-// The pages of a transaction: how many they are, their records set alike, and whether they are alike.
+// The pages of a transaction: how many and which they are, one thing set for all of them, and whether their records are alike.
 
-ghost use Rattle.std.specs.Prelude.{◌≡◌, ℕ, ◌<◌, get_or, length};
+ghost use Rattle.std.specs.Prelude.{◌≡◌, ℕ, ◌≤◌, ◌<◌, get_or, length, take};
 ghost use Rattle.std.specs.List.{list_all};
-ghost use Rattle.model.specs.Constants.{PAGES};
-ghost use Rattle.model.specs.State.{page, record_at, count_of};
+ghost use Rattle.model.specs.Constants.{PAGES, PLACES};
+ghost use Rattle.model.specs.State.{page, record_at, page_at, count_of};
 ghost use Rattle.model.specs.Row.{same_record};
-ghost use Rattle.model.specs.Deeds.{recorded};
+ghost use Rattle.model.specs.Tests.{set_each};
 ghost use Rattle.parts.specs.Reached.{Reached};
 
 use model::{PageId, PageRecord, Transaction};
@@ -18,14 +18,21 @@ pub fn count_of(t: Transaction) -> u8
     t.deal.map_or(0, |d| d.count)
 }
 
-// A new record at each page of the transaction.
-#[tactic(auto, unfolding(model::specs::State::page_at, model::specs::Deeds::recorded))]
-pub fn recorded(records: &mut [PageRecord; 64], t: Transaction, new: PageRecord)
-    requires { Reached t }
-    ensures { records.new ≡ recorded records.old t new }
+// The pages that a transaction holds.
+pub fn held(t: &Transaction) -> &[PageId]
+    requires { count_of t.now ≤ PLACES }
+    ensures { (length result.now ≡ count_of t.now) × (result.now ≡ take (count_of t.now) t.now.pages) }
 {
-    for p in &t.pages[..count_of(t) as usize] {
-        records[p.0 as usize] = new;
+    &t.pages[..count_of(*t) as usize]
+}
+
+// One value for all of them, in an array with a place for each page of the largest machine.
+pub fn set_held<T: Copy>(all: &mut [T; 64], t: &Transaction, value: T)
+    requires { Reached t.now }
+    ensures { all.new ≡ set_each (count_of t.now) (λ i. (page_at t.now i).0) (λ i. value) all.old }
+{
+    for page in held(t) {
+        all[page.0 as usize] = value;
     }
 }
 

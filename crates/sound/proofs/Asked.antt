@@ -14,7 +14,8 @@ use Rattle.model.specs.Sound.{if_owned, each_deal, each_page, page_counts_in_ran
 use Rattle.model.proofs.Links.{Link, ltb_link, ◌both◌, every_link, every_of_link, if_live_link, if_owned_link}
 use Rattle.parts.specs.Reached.{Reached}
 use Rattle.sound.specs.Rows.{Held}
-use Rattle.sound.proofs.Each.{deal_few, transaction_listed, held_reached}
+use Rattle.parts.proofs.Held.{held_reached}
+use Rattle.sound.proofs.Each.{deal_few, transaction_listed}
 use lib.ListN.{length, take, get_or}
 use lib.Seq.{get_or-take}
 use Rattle.std.proofs.lemmas.List.{get_or_read_under, length-take}

@@ -24,11 +24,10 @@ use Rattle.isa.proofs.Tests.{and_right}
 use Rattle.model.specs.declared.VmId.{VmId}
 use Rattle.model.specs.declared.Deal.{Deal}
 use Rattle.model.specs.declared.Transaction.{Transaction}
-use Rattle.model.specs.Constants.{PAGES, HANDLES, PLACES}
+use Rattle.model.specs.Constants.{HANDLES, PLACES}
 use Rattle.model.specs.State.{vm, page, same_vm, handle, transaction_at, page_at, inbox_at, count_in, count_of}
 use Rattle.model.specs.Sound.{if_live, if_full, blank_guest, each_deal, each_page, each_message, page_counts_in_range}
 use Rattle.model.proofs.Tests.{every_at, every_same}
-use Rattle.parts.specs.Reached.{Reached}
 use Rattle.parts.proofs.Loops.{all_listed, all_among, all_adjacent}
 use lib.Seq.{get_or-take}
 use Rattle.std.proofs.lemmas.List.{get_or_read_under}
@@ -116,17 +115,6 @@ held_ascend {held} t r (long, is) h =
     ∙ every_same _ _ _ (λ i b.
     rw is
     (rw (get_or-take (count_of t) t.pages i (page 0) (omega arith), get_or-take (count_of t) t.pages (suc i) (page 0) (omega arith))))
-
-pub held_at :
-    {held : List PageId} (t : Transaction) (k : ℕ) → (length held ≡ count_of t) × (held ≡ take (count_of t) t.pages) →
-    k < length held → get_or held k (page 0) ≡ page_at t k
-unfolding page_at
-held_at t k (long, is) b = rw is (get_or-take (count_of t) t.pages k (page 0) (omega arith))
-
-pub held_reached :
-    {held : List PageId} (t : Transaction) (k : ℕ) → Reached t → (length held ≡ count_of t) × (held ≡ take (count_of t) t.pages) →
-    k < length held → (get_or held k (page 0)).0 < PAGES
-held_reached t k fits is b = rw (held_at t k is b) (fits.below k (omega (arith, is.0)))
 
 -- A transaction that a chain comes to is one of the machine's.
 

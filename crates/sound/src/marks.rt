@@ -10,8 +10,9 @@ ghost use Rattle.model.specs.Sound.{mailboxes_below};
 ghost use Rattle.parts.specs.Reached.{Reached};
 ghost use Rattle.sound.specs.Marks.{marked, with_box, box_marks, with_held};
 
-use crate::pages::{held, set_box};
+use crate::pages::set_box;
 use model::{Mailbox, Transaction};
+use parts::pages::held;
 
 // A guest's two pages differ, and neither is marked.
 #[tactic(auto, unfolding(crate::specs::Marks::marked, model::specs::State::same_page))]

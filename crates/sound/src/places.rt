@@ -8,8 +8,8 @@ ghost use Rattle.model.specs.Sound.{pages_ascend, pages_below, pages_no_mailbox,
 
 use crate::known::{Counted, Ranged};
 use crate::marks;
-use crate::pages::{held, set_held};
 use model::Transaction;
+use parts::pages::{held, set_held};
 
 // Each page of the transaction is below the next.
 #[tactic(auto, unfolding(model::specs::Tests::ascending, model::specs::State::page_at))]

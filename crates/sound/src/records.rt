@@ -8,8 +8,9 @@ ghost use Rattle.model.specs.Sound.{page_counts_in_range, owners_below, parties_
 ghost use Rattle.sound.specs.Rows.{free_rows, Held, held_rows, box_rows, Usable};
 
 use crate::known::Ranged;
-use crate::pages::{set_box, set_held};
+use crate::pages::set_box;
 use model::{PageRecord, Transaction, VmId};
+use parts::pages::set_held;
 
 // Each of the m pages by its owner, as if it were used for nothing.
 #[tactic(auto, unfolding(crate::specs::Rows::free_rows, model::specs::State::record_at))]

@@ -1,10 +1,10 @@
--- `sound::pages::set_held` meets its contract: what the loop keeps from turn to turn is what the definition says.
+-- `parts::pages::set_held` meets its contract: what the loop keeps from turn to turn is what the definition says.
 use Rattle.std.proofs.Common.{arith, rules, get_or, ◌<◌, ◌≡◌}
 use Rattle.model.specs.Constants.{PAGES}
 use Rattle.model.specs.State.{page, count_of}
 use Rattle.parts.proofs.Loops.{set_more, set_none}
-use Rattle.sound.proofs.Each.{held_at, held_reached}
-use Rattle.sound.proofs.pages.set_held.Goals as goal
+use Rattle.parts.proofs.Held.{held_at, held_reached}
+use Rattle.parts.proofs.pages.set_held.Goals as goal
 
 pub loop-page-init : goal.loop-page-init
 loop-page-init g c = set_none _ _ _

@@ -2,7 +2,7 @@
 use Rattle.std.proofs.Common.{◌≡◌}
 use Rattle.model.specs.Tests.{set_each}
 use Rattle.model.specs.State.{page_at}
-use Rattle.sound.proofs.pages.set_held.Given as goal
+use Rattle.parts.proofs.pages.set_held.Given as goal
 
 abbrev pub invariant-loop-page : goal.invariant-loop-page
 invariant-loop-page g l = l.all ≡ set_each l.page-index (λ k. (page_at l.t k).0) (λ k. l.value) l.initial.all
