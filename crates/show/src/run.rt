@@ -72,6 +72,7 @@ fn put_piece(machine: Machine, mem: &mut [u32], budget: u32, left: u32, out: &mu
         };
         piece.end = put_call(out, piece.end, budget - piece.left, call, &piece.machine);
     }
+    // The buffer may have no room for one more line.
     piece
 }
 
