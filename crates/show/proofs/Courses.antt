@@ -45,9 +45,8 @@ pub fitting : (bytes : List ℕ) (m : ℕ) → course_of bytes ≡ Ok m → Fitt
 unfolding course_of
 fitting bytes m e = judged_fit (judged_of bytes) (passed (ltb BYTES (length bytes)) (judged_course (judged_of bytes)) e).1
 
--- the largest machine's memory has room for it
-pub has_room : (bytes : List ℕ) {m room : ℕ} → course_of bytes ≡ Ok m → PAGE * MOST ≡ room → PAGE * m ≤ room
-has_room bytes e h = omega (arith, (fitting bytes _ e).few, h)
+pub has_room : (bytes : List ℕ) {m : ℕ} → course_of bytes ≡ Ok m → PAGE * m ≤ PAGE * MOST
+has_room bytes e = omega (arith, (fitting bytes _ e).few)
 
 -- What loading it leaves, whatever the memory held.
 pub good_loads : (bytes : List ℕ) (m : ℕ) (memory : List ℕ) (fit : Fitting (judged_of bytes) m) → length memory ≡ PAGE * m

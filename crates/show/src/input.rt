@@ -7,13 +7,12 @@ use std::io::{Read, Stdin};
 
 // Reads until the buffer is full or the input ends, in as many reads as it takes, and gives back how many bytes now stand at the
 // start of the buffer. A read that fails ends it with that error.
-pub fn read_full(from: Stdin, buffer: &mut [u8]) -> io::Result<usize>
+pub fn read_full(mut from: Stdin, buffer: &mut [u8]) -> io::Result<usize>
     ensures { IfOk result (λ n. n ≤ length buffer.new) }
 {
-    let mut input = from;
     let mut done = 0;
     while done < buffer.len() {
-        let n = input.read(&mut buffer[done..])?;
+        let n = from.read(&mut buffer[done..])?;
         if n == 0 {
             break;
         }

@@ -7,7 +7,7 @@ mod course;
 mod input;
 mod run;
 
-ghost use Rattle.std.specs.Prelude.{◌≡◌, length, Ok, IfOk};
+ghost use Rattle.std.specs.Prelude.{◌≡◌, Ok, IfOk};
 ghost use Rattle.show.specs.Course.{course_of, image_run};
 ghost use Rattle.show.specs.Ended.{ending_of};
 
@@ -29,19 +29,12 @@ fn refuse(to: Stdout, refusal: Refusal) -> io::Result<()> {
     to.write_all(&out[..end])
 }
 
-// Memory for the largest machine.
-fn memory() -> [u32; 16384]
-    ensures { 16384 ≡ length result }
-{
-    [0; 16384]
-}
-
 // Loads an image whose machine has so many pages, and runs it. It fails only where a write does.
 fn perform(to: Stdout, bytes: &[u8], m: u8) -> io::Result<Ending>
     requires { course_of bytes.now ≡ Ok m }
     ensures { IfOk result (λ r. r ≡ ending_of (image_run bytes.now)) }
 {
-    let mut mem = memory();
+    let mut mem = [0; 16384];
     let mem = &mut mem[..1024 * (m as usize)];
     let loaded = creamtally::load(bytes, mem);
     run::play(to, loaded.machine, mem, loaded.budget)

@@ -76,20 +76,13 @@ fn put_piece(machine: Machine, mem: &mut [u32], budget: u32, left: u32, out: &mu
     piece
 }
 
-// Room for many lines.
-fn buffer() -> [u8; 8192]
-    ensures { 8192 ≡ length result }
-{
-    [0; 8192]
-}
-
 // Runs to the end, and writes the run's text, piece by piece. It fails only where a write does, and then runs no further: the
 // lent memory is what some number of the run's steps leave.
 pub fn play(to: Stdout, machine: Machine, mem: &mut [u32], budget: u32) -> io::Result<Ending>
     ensures ok { IfOk result (λ r. r ≡ ending_of (run_of machine mem.old budget)) }
     ensures err { OnErr result ((k : ℕ) × (k ≤ budget) × (mem.new ≡ (run_of machine mem.old k).memory)) }
 {
-    let mut out = buffer();
+    let mut out = [0; 8192];
     let mut m = machine;
     let mut left = budget;
     loop {

@@ -10,7 +10,7 @@ use Rattle.show.proofs.run.play.Goals as goal
 
 pub loop-m-init : goal.loop-m-init
 loop-m-init c =
-    (refl, omega arith, refl, omega (arith, c.buffer-out.ensures), reached_none _ _ c.args.budget)
+    (refl, omega arith, refl, refl, reached_none _ _ c.args.budget)
 
 pub returns-in_err-write_all-clause-err : goal.returns-in_err-write_all-clause-err
 returns-in_err-write_all-clause-err c =
