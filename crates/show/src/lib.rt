@@ -18,8 +18,7 @@ use run::Ending;
 use std::io;
 use std::io::{Print, Stdout};
 
-// Refuses an image: one that is too large, itself or its machine's memory; or a broken one, whose bad record starts at this
-// offset.
+// Refuses an image: what is too large, itself or its machine's memory; or what is broken, by the offset of its bad record.
 fn refuse(to: Stdout, refusal: Refusal) -> io::Result<()> {
     let mut out = [0u8; 64];
     let end = match refusal {
