@@ -7,33 +7,29 @@ ghost use Rattle.model.specs.Sound.{sound};
 ghost use Rattle.model.specs.Poll.{polled, poll_effect};
 
 use model::{Machine, Message};
-use parts::{Refusal, codes, inboxes, registers, reply};
+use parts::{Refusal, codes, registers, reply};
 
 // What waits for the caller.
-#[tactic(auto, unfolding(model::specs::State::own_inbox))]
+#[tactic(auto, unfolding(model::specs::State::inbox_at, model::specs::State::own_inbox))]
 pub fn own_inbox(machine: Machine) -> Option<Message>
     requires { machine.current.0 < GUESTS }
     ensures { result ≡ own_inbox machine }
 {
-    inboxes::inbox_at(machine.inboxes, machine.current)
+    machine.inboxes[machine.current.0 as usize]
 }
 
 // The caller learns of the message, and its inbox is empty again.
-#[tactic(auto, unfolding(model::specs::Poll::noted, model::specs::Poll::polled, model::specs::State::length_of, model::specs::State::sender_of))]
-fn polled(machine: Machine, message: Message) -> Machine
+#[tactic(auto, unfolding(model::specs::Poll::noted, model::specs::Poll::polled, model::specs::State::length_of, model::specs::State::sender_of, model::specs::State::with_inbox))]
+fn polled(mut machine: Machine, message: Message) -> Machine
     requires { (machine.current.0 < GUESTS) × (own_inbox machine ≡ Some message) }
     ensures { result ≡ polled machine }
 {
     let caller = machine.current;
-    let said = registers::written(machine.registers, caller, 0, codes::SEND);
-    let from = registers::written(said, caller, 1, message.sender.0 as u32);
-    let registers = registers::written(from, caller, 2, message.length);
-    let inboxes = inboxes::with_inbox(machine.inboxes, caller, None);
-    Machine {
-        registers,
-        inboxes,
-        ..machine
-    }
+    registers::write(&mut machine.registers, caller, 0, codes::SEND);
+    registers::write(&mut machine.registers, caller, 1, message.sender.0 as u32);
+    registers::write(&mut machine.registers, caller, 2, message.length);
+    machine.inboxes[caller.0 as usize] = None;
+    machine
 }
 
 // NO_DATA where nothing waits, else the message is taken.

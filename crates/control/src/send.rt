@@ -29,7 +29,7 @@ fn addressed(machine: Machine) -> Result<(VmId, u32), Refusal>
     if !(1..=1024).contains(&words) {
         return Err(Refusal::Invalid);
     }
-    let busy = inboxes::inbox_at(machine.inboxes, receiver).is_some();
+    let busy = machine.inboxes[receiver.0 as usize].is_some();
     if busy {
         return Err(Refusal::Busy);
     }
@@ -37,7 +37,8 @@ fn addressed(machine: Machine) -> Result<(VmId, u32), Refusal>
 }
 
 // The receiver's inbox says from whom, and how long.
-fn delivered(machine: Machine, receiver: VmId, words: u32) -> Machine
+#[tactic(auto, unfolding(model::specs::Send::delivered_to, model::specs::State::with_inbox))]
+fn delivered(mut machine: Machine, receiver: VmId, words: u32) -> Machine
     requires { receiver.0 < GUESTS }
     ensures { result ≡ delivered_to machine receiver words }
 {
@@ -45,8 +46,8 @@ fn delivered(machine: Machine, receiver: VmId, words: u32) -> Machine
         length: words,
         sender: machine.current,
     };
-    let inboxes = inboxes::with_inbox(machine.inboxes, receiver, Some(message));
-    Machine { inboxes, ..machine }
+    machine.inboxes[receiver.0 as usize] = Some(message);
+    machine
 }
 
 // Guest 0 is current. If a secondary called, it learns of the message, from whom and for whom.
@@ -54,12 +55,12 @@ fn delivered(machine: Machine, receiver: VmId, words: u32) -> Machine
 fn notified(machine: Machine, receiver: VmId) -> Machine
     ensures { result ≡ notified machine receiver }
 {
-    let told = reply::handed_over(machine, codes::SEND);
+    let mut told = reply::handed_over(machine, codes::SEND);
     if parts::is_primary(machine.current) {
         return told;
     }
-    let registers = registers::written(told.registers, VmId(0), 2, receiver.0 as u32);
-    Machine { registers, ..told }
+    registers::write(&mut told.registers, VmId(0), 2, receiver.0 as u32);
+    told
 }
 
 // The first words of the page tx over those of the page rx, which is lent to the copier.

@@ -73,14 +73,13 @@ module _ (m : Machine) (memory : List ℕ) (g : VmId) (answer : Answer) (e : ans
     guest_below below = let few = whole.counts_in_range.eight_guests in omega arith
 
     -- what waits, read part by part
-    pub message_waits : {inbox : Option Message} {box : Mailbox} {words : ℕ} → g.0 < m.n → inbox ≡ inbox_at m.inboxes g
-        → words ≡ length_of inbox → box ≡ mailbox_at m.mailboxes g → Waits m memory g box.rx words
+    pub message_waits : {box : Mailbox} {words : ℕ} → g.0 < m.n → words ≡ length_of (inbox_at m.inboxes g) → box ≡ mailbox_at m.mailboxes g → Waits m memory g box.rx words
     unfolding message_of waiting message_place base_of ◌and◌
-    message_waits below read count kept =
+    message_waits below count kept =
         let page : (mailbox_at m.mailboxes g).rx.0 < m.m = (whole.mailboxes_below g.0 below).1 in
         let short = fits_page (inbox_at m.inboxes g) (λ words sender full. whole.lengths_in_range g.0 words sender below full) in
         record {
-          inside = rw (kept, count, read) (omega (arith, done_memory m memory checked));
+          inside = rw (kept, count) (omega (arith, done_memory m memory checked));
           place = rw (kept, ← e, d, lt-ltb g.0 m.n below);
-          part = rw (add-sub_cancel_left, count, read, kept, ← e, d, lt-ltb g.0 m.n below);
+          part = rw (add-sub_cancel_left, count, kept, ← e, d, lt-ltb g.0 m.n below);
         }

@@ -122,7 +122,7 @@ pub fn message<'a>(machine: Machine, mem: &'a [u32], g: VmId) -> &'a [u32]
     if g.0 >= machine.n {
         return &mem[..0];
     }
-    let words = inboxes::length_of(inboxes::inbox_at(machine.inboxes, g)) as usize;
+    let words = machine.inboxes[g.0 as usize].map_or(0, |message| message.length) as usize;
     let base = 1024 * (inboxes::mailbox_at(machine.mailboxes, g).rx.0 as usize);
     let end = base + words;
     &mem[base..end]

@@ -32,6 +32,7 @@ fn granted(machine: Machine, g: VmId) -> bool
 }
 
 // The lowest free handle gets the transaction, its pages their row, and the caller the handle.
+#[tactic(auto, unfolding(crate::specs::Sending::sent_by, model::specs::Deeds::settled, model::specs::Reply::succeeded, model::specs::Sending::with_handle))]
 fn sent(kind: Kind, machine: Machine, proposal: Proposal) -> Machine
     requires { Sendable machine proposal }
     ensures { result ≡ sent_by kind machine proposal }
@@ -54,9 +55,9 @@ fn sent(kind: Kind, machine: Machine, proposal: Proposal) -> Machine
         pages,
     };
     let h = lowest_free(&machine.transactions);
-    let done = reply::succeeded(deeds::settled(machine, h, new, new, parts::row(d)));
-    let registers = registers::written(done.registers, caller, 2, h.0 as u32);
-    Machine { registers, ..done }
+    let mut done = reply::succeeded(deeds::settled(machine, h, new, new, parts::row(d)));
+    registers::write(&mut done.registers, caller, 2, h.0 as u32);
+    done
 }
 
 // The tests, on the caller's R1 and the words from its TX page on: what is INVALID first, then DENIED, then NO_MEMORY. Then

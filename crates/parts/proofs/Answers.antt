@@ -8,7 +8,7 @@ use mathlib.Core.List.{List}
 use native.Mathlib.Omega.{arith}
 use Rattle.model.specs.declared.Registers.{Registers}
 use Rattle.model.specs.declared.Machine.{Machine}
-use Rattle.model.specs.Constants.{GUESTS, ERROR}
+use Rattle.model.specs.Constants.{GUESTS}
 use Rattle.model.specs.State.{State, state, primary, is_primary, written, with_registers, with_current}
 use Rattle.model.specs.Reply.{Verdict, passes, refused, need, with_error, answer, told, woken, handed_over}
 use Rattle.model.specs.Sound.{sound}
@@ -41,15 +41,6 @@ pub need_joined : (t u : Bool) (code : ℕ) (rest : Verdict) → need t code (ne
 unfolding need ◌and◌
 need_joined true u code rest = refl
 need_joined false u code rest = refl
-
--- an error: two registers of the caller are written
-pub error_told :
-    (m : Machine) (code : ℕ) {first all : List Registers} →
-    first ≡ written m.registers m.current 0 ERROR →
-    all ≡ written first m.current 2 code →
-    with_registers m all ≡ with_error m code
-unfolding with_error
-error_told m code e f = rw (f, e)
 
 -- What is left.
 

@@ -15,13 +15,11 @@ pub fn register(files: [Registers; 8], g: VmId, i: usize) -> u32
     files[g.0 as usize].r[i]
 }
 
-// The files with v in register i of guest g.
+// v written to register i of guest g.
 #[tactic(auto, unfolding(model::specs::State::registers_at, model::specs::State::written))]
-pub fn written(files: [Registers; 8], g: VmId, i: usize, v: u32) -> [Registers; 8]
+pub fn write(files: &mut [Registers; 8], g: VmId, i: usize, v: u32)
     requires { (g.0 < GUESTS) × (i < 8) }
-    ensures { result ≡ written files g i v }
+    ensures { files.new ≡ written files.old g i v }
 {
-    let mut all = files;
-    all[g.0 as usize].r[i] = v;
-    all
+    files[g.0 as usize].r[i] = v;
 }

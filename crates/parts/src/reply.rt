@@ -19,17 +19,15 @@ pub fn argument(machine: Machine, i: usize) -> u32
 }
 
 // An error: R0 and R2 of the caller, and nothing else.
-pub fn with_error(machine: Machine, refusal: Refusal) -> Machine
+#[tactic(auto, unfolding(model::specs::Reply::with_error))]
+pub fn with_error(mut machine: Machine, refusal: Refusal) -> Machine
     requires { machine.current.0 < GUESTS }
     ensures { result ≡ with_error machine (code_of refusal) }
 {
     let caller = machine.current;
-    let told = registers::written(machine.registers, caller, 0, codes::ERROR);
-    let registers = registers::written(told, caller, 2, refusal.into());
-    Machine {
-        registers,
-        ..machine
-    }
+    registers::write(&mut machine.registers, caller, 0, codes::ERROR);
+    registers::write(&mut machine.registers, caller, 2, refusal.into());
+    machine
 }
 
 // A call that came to this: the machine that it left, or the error.
@@ -46,31 +44,26 @@ pub fn answered(machine: Machine, outcome: Result<Machine, Refusal>) -> Machine
 
 // Success in the caller's R0.
 #[tactic(auto, unfolding(model::specs::Reply::succeeded))]
-pub fn succeeded(machine: Machine) -> Machine
+pub fn succeeded(mut machine: Machine) -> Machine
     requires { machine.current.0 < GUESTS }
     ensures { result ≡ succeeded machine }
 {
-    let registers = registers::written(machine.registers, machine.current, 0, codes::SUCCESS);
-    Machine {
-        registers,
-        ..machine
-    }
+    let caller = machine.current;
+    registers::write(&mut machine.registers, caller, 0, codes::SUCCESS);
+    machine
 }
 
 // Guest 0 is current. If a secondary called, guest 0's R0 says which call it was, and its R1 who called.
-#[tactic(auto, unfolding(model::specs::Reply::handed_over))]
-pub fn handed_over(machine: Machine, why: u32) -> Machine
+#[tactic(auto, using(crate::proofs::Answers::woken_primary), unfolding(model::specs::Reply::handed_over, model::specs::Reply::told, model::specs::Reply::woken))]
+pub fn handed_over(mut machine: Machine, why: u32) -> Machine
     ensures { result ≡ handed_over machine why }
 {
     let caller = machine.current;
     if crate::is_primary(caller) {
         return machine;
     }
-    let told = registers::written(machine.registers, VmId(0), 0, why);
-    let registers = registers::written(told, VmId(0), 1, caller.0 as u32);
-    Machine {
-        registers,
-        current: VmId(0),
-        ..machine
-    }
+    registers::write(&mut machine.registers, VmId(0), 0, why);
+    registers::write(&mut machine.registers, VmId(0), 1, caller.0 as u32);
+    machine.current = VmId(0);
+    machine
 }

@@ -1,10 +1,10 @@
 -- What a function asks of one thing, joined with the rest of a clause: the code's `|` and `&`, a test of an owner's guest or of
 -- a live deal. Then what a passed test tells of one transaction.
-use Rattle.std.specs.Prelude.{Option, None, Some}
+use Rattle.std.specs.Prelude.{Option, None, Some, is_some}
 use Rattle.model.specs.declared.Message.{Message}
 use Prim.Native.Nat.{ℕ, suc, ◌≤◌, ◌<◌}
 use mathlib.Core.Path.{◌≡◌, refl, sym, ◌∙◌}
-use mathlib.Core.Bool.{Bool, true, not, ◌&&◌}
+use mathlib.Core.Bool.{Bool, true, false, not, true≢false, false≢true, ◌&&◌}
 use mathlib.Core.List.{List}
 use native.Mathlib.Omega.{arith}
 use lib.Dec.{leb, ltb}
@@ -25,7 +25,7 @@ use Rattle.model.specs.declared.VmId.{VmId}
 use Rattle.model.specs.declared.Deal.{Deal}
 use Rattle.model.specs.declared.Transaction.{Transaction}
 use Rattle.model.specs.Constants.{HANDLES, PLACES}
-use Rattle.model.specs.State.{vm, page, same_vm, handle, transaction_at, page_at, inbox_at, count_in, count_of}
+use Rattle.model.specs.State.{vm, page, same_vm, handle, transaction_at, page_at, inbox_at, is_empty, count_in, count_of}
 use Rattle.model.specs.Sound.{if_live, if_full, blank_guest, each_deal, each_page, each_message, page_counts_in_range}
 use Rattle.model.proofs.Tests.{every_at, every_same}
 use Rattle.parts.proofs.Loops.{all_listed, all_among, all_adjacent}
@@ -46,6 +46,14 @@ asked_and a asked = rw asked
 pub live_asked : {life : Option Deal} {d : Deal} (f : Deal → Bool) {r : Bool} → life ≡ Some d → r ≡ f d → r ≡ if_live life f
 unfolding if_live
 live_asked f e asked = rw e asked
+
+-- the library's test of an inbox
+pub nothing_waits : (inbox : Option Message) {empty : Bool} → is_some inbox ≡ not empty → empty ≡ is_empty inbox
+unfolding is_empty
+nothing_waits None {empty = true} e = refl
+nothing_waits None {empty = false} e = absurd (false≢true e)
+nothing_waits (Some message) {empty = true} e = absurd (true≢false e)
+nothing_waits (Some message) {empty = false} e = refl
 
 -- a transaction whose page count is in range has no more pages than places
 life_few : (life : Option Deal) → if_live life (λ d. leb 1 d.count and leb d.count PLACES) ≡ true → count_in life ≤ PLACES

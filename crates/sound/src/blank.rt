@@ -24,8 +24,7 @@ fn blank_guest(file: &Registers, mailbox: &Mailbox, inbox: Option<Message>) -> b
 {
     registers_zero(file)
         & ((file.pc == 0)
-            & (!file.equal
-                & ((mailbox.tx.0 == 0) & ((mailbox.rx.0 == 0) & parts::inboxes::is_empty(inbox)))))
+            & (!file.equal & ((mailbox.tx.0 == 0) & ((mailbox.rx.0 == 0) & inbox.is_none()))))
 }
 
 // Every guest from n on is blank.

@@ -1,4 +1,6 @@
 -- `message`: the ways out, and that the words that wait lie inside memory.
+use Rattle.std.proofs.Common.{rules, ◌≡◌}
+use Rattle.model.specs.State.{inbox_at, length_of}
 use Rattle.creamtally.proofs.Answers.{told_done, told_refused}
 use Rattle.creamtally.proofs.Waiting.{begins, begins_first, guest_below, message_of_nobody, message_refused, message_waits, place_of_nobody, refused_place}
 use Rattle.creamtally.proofs.message.Goals as goal
@@ -15,8 +17,8 @@ returns-then-g-machine c =
       begins_first _ (place_of_nobody _ _ _ _ c.check.ensures done c.if-g-machine.true),
     )
 
-pub inbox_at-requires : goal.inbox_at-requires
-inbox_at-requires c =
+pub bounds-machine-g : goal.bounds-machine-g
+bounds-machine-g c =
     guest_below _ _ _ _ c.check.ensures (told_done _ c.ne-refused.ensures c.if-refused.false) c.if-g-machine.false
 
 pub mailbox_at-requires : goal.mailbox_at-requires
@@ -24,17 +26,21 @@ mailbox_at-requires c =
     guest_below _ _ _ _ c.check.ensures (told_done _ c.ne-refused.ensures c.if-refused.false) c.if-g-machine.false
 
 pub slice_bounds-result-end-2 : goal.slice_bounds-result-end-2
+unfolding inbox_at length_of
 slice_bounds-result-end-2 c =
+    let words : c.map_or-words.result ≡ length_of (inbox_at c.args.machine.inboxes c.args.g) = search rules in
     let waits =
     message_waits _ _ _ _ c.check.ensures (told_done _ c.ne-refused.ensures c.if-refused.false)
-    c.if-g-machine.false c.inbox_at.ensures c.length_of-words.ensures c.mailbox_at.ensures
+    c.if-g-machine.false words c.mailbox_at.ensures
     in
     waits.inside
 
 pub returns : goal.returns
+unfolding inbox_at length_of
 returns c =
+    let words : c.map_or-words.result ≡ length_of (inbox_at c.args.machine.inboxes c.args.g) = search rules in
     let waits =
     message_waits _ _ _ _ c.check.ensures (told_done _ c.ne-refused.ensures c.if-refused.false)
-    c.if-g-machine.false c.inbox_at.ensures c.length_of-words.ensures c.mailbox_at.ensures
+    c.if-g-machine.false words c.mailbox_at.ensures
     in
     (waits.part, begins _ waits.place)

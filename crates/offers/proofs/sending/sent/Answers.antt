@@ -1,11 +1,9 @@
 -- `offers::sending::sent`: the handle is one, since the caller is granted one.
-use Rattle.std.proofs.Common.{ltb-true, ◌<◌, ◌≡◌}
+use Rattle.std.proofs.Common.{ltb-true, ◌<◌}
 use Rattle.model.specs.Constants.{HANDLES}
 use Rattle.model.specs.Deeds.{settled}
-use Rattle.model.specs.Reply.{succeeded}
-use Rattle.model.specs.Sending.{granted, with_handle}
-use Rattle.model.specs.State.{count_in, count_of, page_at, written}
-use Rattle.offers.specs.Sending.{sent_by}
+use Rattle.model.specs.Sending.{granted}
+use Rattle.model.specs.State.{count_in, count_of, page_at}
 use Rattle.offers.proofs.sending.sent.Goals as goal
 
 pub settled-requires : goal.settled-requires
@@ -17,12 +15,3 @@ settled-requires c =
 pub succeeded-done-requires : goal.succeeded-done-requires
 unfolding settled
 succeeded-done-requires c = rw c.settled.ensures c.requires.caller_below
-
-pub returns : goal.returns
-unfolding sent_by with_handle succeeded settled
-returns c =
-    let files :
-    c.written-registers.result ≡ written c.succeeded-done.result.registers c.args.machine.current 2 c.lowest_free-h.result.0 =
-    c.written-registers.ensures
-    in
-    rw (files, c.succeeded-done.ensures, c.settled.ensures, c.row.ensures, c.lowest_free-h.ensures)
