@@ -76,7 +76,7 @@ pub fn call(machine: Machine, mem: &mut [u32]) -> Machine
     requires { (sound machine ≡ true) × (length mem.old ≡ PAGE * machine.m) }
     ensures { state result mem.new ≡ call_effect (state machine mem.old) }
 {
-    match CallName::try_from(reply::argument(machine, 0)) {
+    match CallName::try_from(reply::argument(&machine, 0)) {
         Ok(called) => made(called, machine, mem),
         Err(refusal) => reply::with_error(machine, refusal),
     }

@@ -11,9 +11,9 @@ use parts::{Refusal, codes, registers, reply};
 
 // What waits for the caller.
 #[tactic(auto, unfolding(model::specs::State::inbox_at, model::specs::State::own_inbox))]
-pub fn own_inbox(machine: Machine) -> Option<Message>
-    requires { machine.current.0 < GUESTS }
-    ensures { result ≡ own_inbox machine }
+pub fn own_inbox(machine: &Machine) -> Option<Message>
+    requires { machine.now.current.0 < GUESTS }
+    ensures { result ≡ own_inbox machine.now }
 {
     machine.inboxes[machine.current.0 as usize]
 }
@@ -38,7 +38,7 @@ pub fn poll(machine: Machine) -> Machine
     requires { sound machine ≡ true }
     ensures { (memory : List ℕ) → state result memory ≡ poll_effect (state machine memory) }
 {
-    let Some(message) = own_inbox(machine) else {
+    let Some(message) = own_inbox(&machine) else {
         return reply::with_error(machine, Refusal::NoData);
     };
     polled(machine, message)

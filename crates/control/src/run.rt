@@ -14,7 +14,7 @@ pub fn run(machine: Machine) -> Machine
     requires { sound machine ≡ true }
     ensures { (memory : List ℕ) → state result memory ≡ run_effect (state machine memory) }
 {
-    match numbers::next_guest(machine.current, reply::argument(machine, 1), machine.n) {
+    match numbers::next_guest(machine.current, reply::argument(&machine, 1), machine.n) {
         Ok(current) => Machine { current, ..machine },
         Err(refusal) => reply::with_error(machine, refusal),
     }

@@ -15,11 +15,11 @@ use parts::{Refusal, codes, inboxes, numbers, registers, reply};
 
 // To whom, and how many words, if the tests pass, in their order: another guest, a page at most, and an empty inbox.
 #[tactic(auto, using(parts::proofs::Answers::caller_below, parts::proofs::Named::no_vm, crate::proofs::Control::guests_few, parts::proofs::Named::vm_found, crate::proofs::Control::named_below), unfolding(crate::proofs::Control::answering, isa::proofs::Tests::joined, model::specs::Reply::is_other, model::specs::Send::send_length, model::specs::Send::send_to, model::specs::Send::send_verdict))]
-fn addressed(machine: Machine) -> Result<(VmId, u32), Refusal>
-    requires { sound machine ≡ true }
-    ensures verdict { verdict_of result ≡ send_verdict machine }
-    ensures named { IfOk result (λ to. (to.0 ≡ send_to machine) × (to.1 ≡ send_length machine)) }
-    ensures within { IfOk result (λ to. (to.0.0 < machine.n) × (to.1 ≤ PAGE)) }
+fn addressed(machine: &Machine) -> Result<(VmId, u32), Refusal>
+    requires { sound machine.now ≡ true }
+    ensures verdict { verdict_of result ≡ send_verdict machine.now }
+    ensures named { IfOk result (λ to. (to.0 ≡ send_to machine.now) × (to.1 ≡ send_length machine.now)) }
+    ensures within { IfOk result (λ to. (to.0.0 < machine.now.n) × (to.1 ≤ PAGE)) }
 {
     let receiver = numbers::vm_of(reply::argument(machine, 1), machine.n).ok_or(Refusal::Invalid)?;
     if receiver == machine.current {
@@ -83,12 +83,12 @@ pub fn send(machine: Machine, mem: &mut [u32]) -> Machine
     requires { (sound machine ≡ true) × (length mem.old ≡ PAGE * machine.m) }
     ensures { state result mem.new ≡ send_effect (state machine mem.old) }
 {
-    let (receiver, words) = match addressed(machine) {
+    let (receiver, words) = match addressed(&machine) {
         Ok(to) => to,
         Err(refusal) => return reply::with_error(machine, refusal),
     };
-    let tx = inboxes::mailbox_at(machine.mailboxes, machine.current).tx;
-    let rx = inboxes::mailbox_at(machine.mailboxes, receiver).rx;
+    let tx = inboxes::mailbox_at(&machine.mailboxes, machine.current).tx;
+    let rx = inboxes::mailbox_at(&machine.mailboxes, receiver).rx;
     copied(mem, tx, rx, words as usize);
     let done = reply::succeeded(delivered(machine, receiver, words));
     notified(done, receiver)

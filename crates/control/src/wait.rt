@@ -15,7 +15,7 @@ pub fn wait(machine: Machine) -> Machine
     requires { sound machine ≡ true }
     ensures { (memory : List ℕ) → state result memory ≡ wait_effect (state machine memory) }
 {
-    if poll::own_inbox(machine).is_some() {
+    if poll::own_inbox(&machine).is_some() {
         return poll::poll(machine);
     }
     if parts::is_primary(machine.current) {

@@ -123,7 +123,7 @@ pub fn message<'a>(machine: Machine, mem: &'a [u32], g: VmId) -> &'a [u32]
         return &mem[..0];
     }
     let words = machine.inboxes[g.0 as usize].map_or(0, |message| message.length) as usize;
-    let base = 1024 * (inboxes::mailbox_at(machine.mailboxes, g).rx.0 as usize);
+    let base = 1024 * (inboxes::mailbox_at(&machine.mailboxes, g).rx.0 as usize);
     let end = base + words;
     &mem[base..end]
 }

@@ -14,9 +14,9 @@ use parts::pages;
 
 // The transaction in a handle's place.
 #[tactic(auto, unfolding(model::specs::State::transaction_at))]
-pub fn transaction_at(machine: Machine, h: Handle) -> Transaction
+pub fn transaction_at(machine: &Machine, h: Handle) -> Transaction
     requires { h.0 < HANDLES }
-    ensures { result ≡ transaction_at machine.transactions h }
+    ensures { result ≡ transaction_at machine.now.transactions h }
 {
     machine.transactions[h.0 as usize]
 }
@@ -47,7 +47,7 @@ fn owned_by(machine: Machine, h: Handle, g: VmId) -> Machine
         deal: None,
         pages: [PageId(0); 8],
     };
-    let t = transaction_at(machine, h);
+    let t = transaction_at(&machine, h);
     settled(machine, h, free, t, parts::owned_row(g))
 }
 
@@ -59,7 +59,7 @@ fn with_mark(machine: Machine, h: Handle, d: Deal, retrieved: bool) -> Machine
         result ≡ settled machine h (redealt t (marked d retrieved)) t (row (marked d retrieved)) }
 {
     let d = Deal { retrieved, ..d };
-    let t = transaction_at(machine, h);
+    let t = transaction_at(&machine, h);
     let new = Transaction { deal: Some(d), ..t };
     settled(machine, h, new, t, parts::row(d))
 }

@@ -44,10 +44,10 @@ pub fn on_handle<C: HandleCall>(machine: Machine) -> Machine
     requires { sound machine ≡ true }
     ensures { (memory : List ℕ) → state result memory ≡ handle_effect C.may C.mark C.deed (state machine memory) }
 {
-    let Some((h, d)) = lookup::own_found(machine) else {
+    let Some((h, d)) = lookup::own_found(&machine) else {
         return reply::with_error(machine, Refusal::Invalid);
     };
-    match lookup::tested(machine, h, d, C::may(d, machine.current), C::marked(d)) {
+    match lookup::tested(&machine, h, d, C::may(d, machine.current), C::marked(d)) {
         Err(refusal) => reply::with_error(machine, refusal),
         Ok(()) => reply::succeeded(C::deed(machine, h, d)),
     }

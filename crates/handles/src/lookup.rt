@@ -22,18 +22,18 @@ fn lookup(transactions: &[Transaction; 16], w: u32) -> Option<(Handle, Deal)>
 
 // What the handle word in the caller's R1 finds.
 #[tactic(auto, unfolding(model::specs::HandleCall::own_found))]
-pub fn own_found(machine: Machine) -> Option<(Handle, Deal)>
-    requires { machine.current.0 < GUESTS }
-    ensures { result ≡ own_found machine }
+pub fn own_found(machine: &Machine) -> Option<(Handle, Deal)>
+    requires { machine.now.current.0 < GUESTS }
+    ensures { result ≡ own_found machine.now }
 {
     lookup(&machine.transactions, reply::argument(machine, 1))
 }
 
 // Every page of the transaction has its row.
 #[tactic(auto, unfolding(model::specs::State::page_at))]
-fn in_place(machine: Machine, h: Handle, d: Deal) -> bool
-    requires { Dealt machine h d }
-    ensures { result ≡ in_place machine h d }
+fn in_place(machine: &Machine, h: Handle, d: Deal) -> bool
+    requires { Dealt machine.now h d }
+    ensures { result ≡ in_place machine.now h d }
 {
     let t = deeds::transaction_at(machine, h);
     pages::all_have(&machine.records, pages::held(&t), parts::row(d))
@@ -42,9 +42,9 @@ fn in_place(machine: Machine, h: Handle, d: Deal) -> bool
 // The tests behind the look-up, in their order: the caller is the party that may, the retrieved mark is as it must be, and
 // each page has its row.
 #[tactic(auto, using(parts::proofs::Answers::need_fails, parts::proofs::Answers::need_passes), unfolding(parts::specs::Refusal::verdict_of, parts::specs::Refusal::code_of))]
-pub fn tested(machine: Machine, h: Handle, d: Deal, may: bool, marked: bool) -> Result<(), Refusal>
-    requires { Dealt machine h d }
-    ensures { verdict_of result ≡ need may DENIED (need marked DENIED (need (in_place machine h d) ABORTED passes)) }
+pub fn tested(machine: &Machine, h: Handle, d: Deal, may: bool, marked: bool) -> Result<(), Refusal>
+    requires { Dealt machine.now h d }
+    ensures { verdict_of result ≡ need may DENIED (need marked DENIED (need (in_place machine.now h d) ABORTED passes)) }
 {
     if !may {
         return Err(Refusal::Denied);

@@ -51,9 +51,9 @@ fn bases_ascend(count: u8, tx: &[u32]) -> bool
 }
 
 // What the descriptor of this length asks for, if it is a good one for this call.
-pub fn proposal_in(kind: Kind, machine: Machine, length: u32, tx: &[u32]) -> Option<Proposal>
+pub fn proposal_in(kind: Kind, machine: &Machine, length: u32, tx: &[u32]) -> Option<Proposal>
     requires { (3 ≤ length) × (length ≤ 10) × Words tx.now }
-    ensures good { is_some result ≡ well_formed kind machine length tx.now }
+    ensures good { is_some result ≡ well_formed kind machine.now length tx.now }
     ensures read { IfSome result (Read length tx.now) }
 {
     let receiver = numbers::vm_of(tx[1] / 65536, machine.n)?;

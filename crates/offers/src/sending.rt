@@ -25,8 +25,8 @@ fn lowest_free(transactions: &[Transaction; 16]) -> Handle
 
 // Whether this guest gets a handle: any guest does, while one is free.
 #[tactic(auto, unfolding(model::specs::Sending::granted))]
-fn granted(machine: Machine, g: VmId) -> bool
-    ensures { result ≡ granted machine g }
+fn granted(machine: &Machine, g: VmId) -> bool
+    ensures { result ≡ granted machine.now g }
 {
     lowest_free(&machine.transactions).0 < 16
 }
@@ -60,21 +60,22 @@ fn sent(kind: Kind, machine: Machine, proposal: Proposal) -> Machine
     done
 }
 
-// The tests, on the caller's R1 and the words from its TX page on: what is INVALID first, then DENIED, then NO_MEMORY. Then
-// what the call does.
+// What is sent, if the tests pass, on the caller's R1 and the words from its TX page on: what is INVALID first, then DENIED, then
+// NO_MEMORY.
 #[tactic(auto, using(parts::proofs::Answers::caller_below))]
-fn tried(kind: Kind, machine: Machine, mem: &[u32]) -> Result<Machine, Refusal>
-    requires { (sound machine ≡ true) × (length mem.now ≡ PAGE * machine.m) }
-    ensures tests { verdict_of result ≡ sending_verdict kind (state machine mem.now) }
-    ensures left { IfOk result (λ next. state next mem.now
-        ≡ state (with_handle (succeeded (sent kind (state machine mem.now))) (lowest_free machine.transactions)) mem.now) }
+fn proposed(kind: Kind, machine: &Machine, mem: &[u32]) -> Result<Proposal, Refusal>
+    requires { (sound machine.now ≡ true) × (length mem.now ≡ PAGE * machine.now.m) }
+    ensures tests { verdict_of result ≡ sending_verdict kind (state machine.now mem.now) }
+    ensures sendable { IfOk result (Sendable machine.now) }
+    ensures sent { IfOk result (λ proposal. sent_by kind machine.now proposal
+        ≡ with_handle (succeeded (sent kind (state machine.now mem.now))) (lowest_free machine.now.transactions)) }
 {
     let caller = machine.current;
     let words = reply::argument(machine, 1);
     if !(3..=10).contains(&words) {
         return Err(Refusal::Invalid);
     }
-    let base = 1024 * inboxes::mailbox_at(machine.mailboxes, caller).tx.0 as usize;
+    let base = 1024 * inboxes::mailbox_at(&machine.mailboxes, caller).tx.0 as usize;
     let tx = &mem[base..];
     let proposal = descriptor::proposal_in(kind, machine, words, tx).ok_or(Refusal::Invalid)?;
     let named = &proposal.pages[..proposal.count as usize];
@@ -84,14 +85,17 @@ fn tried(kind: Kind, machine: Machine, mem: &[u32]) -> Result<Machine, Refusal>
     if !granted(machine, caller) {
         return Err(Refusal::NoMemory);
     }
-    Ok(sent(kind, machine, proposal))
+    Ok(proposal)
 }
 
-// A sending is answered by what its tests come to.
+// It is sent, or the caller is told the error.
 #[tactic(auto, using(parts::proofs::Answers::caller_below))]
 pub fn sending(kind: Kind, machine: Machine, mem: &[u32]) -> Machine
     requires { (sound machine ≡ true) × (length mem.now ≡ PAGE * machine.m) }
     ensures { state result mem.now ≡ sending_effect kind (state machine mem.now) }
 {
-    reply::answered(machine, tried(kind, machine, mem))
+    match proposed(kind, &machine, mem) {
+        Ok(proposal) => sent(kind, machine, proposal),
+        Err(refusal) => reply::with_error(machine, refusal),
+    }
 }

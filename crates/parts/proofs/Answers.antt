@@ -1,6 +1,6 @@
 -- What the proofs of the calls share: the caller is a guest; which way a chain of tests goes; what a refused call and a call
 -- that passes leave; guest 0 made current by a primary and by a secondary.
-use Rattle.std.specs.Prelude.{Result, Ok, Err, IfOk}
+
 use Prim.Native.Nat.{ℕ, ◌<◌}
 use mathlib.Core.Path.{◌≡◌, refl, sym}
 use mathlib.Core.Bool.{Bool, true, false}
@@ -12,8 +12,7 @@ use Rattle.model.specs.Constants.{GUESTS}
 use Rattle.model.specs.State.{State, state, primary, is_primary, written, with_registers, with_current}
 use Rattle.model.specs.Reply.{Verdict, passes, refused, need, with_error, answer, told, woken, handed_over}
 use Rattle.model.specs.Sound.{sound}
-use Rattle.parts.specs.declared.refusal.Refusal.{Refusal}
-use Rattle.parts.specs.Refusal.{verdict_of, answered}
+
 use Rattle.isa.specs.Tests.{◌and◌}
 use Rattle.model.proofs.Reply.{answer_passes}
 use Rattle.model.proofs.Same.{same_vm_true}
@@ -43,13 +42,6 @@ need_joined true u code rest = refl
 need_joined false u code rest = refl
 
 -- What is left.
-
--- by what the tests came to, where what is left by those that pass is the effect
-pub answered-answer : (m : Machine) (memory : List ℕ) (done : State) {v : Verdict} (outcome : Result Machine Refusal) → verdict_of outcome ≡ v
-    → IfOk outcome (λ next. state next memory ≡ done) → state (answered m outcome) memory ≡ answer v (state m memory) done
-unfolding answered answer verdict_of
-answered-answer m memory done (Ok next) e left = rw (← e) left
-answered-answer m memory done (Err refusal) e left = rw (← e) refl
 
 pub refusal : (m : Machine) (memory : List ℕ) (done : State) {v : Verdict} {code : ℕ} → v ≡ refused code
     → state (with_error m code) memory ≡ answer v (state m memory) done

@@ -1,8 +1,7 @@
--- The errors of the calls: the code of each, and what the outcome of a chain of tests says and leaves.
+-- The errors of the calls: the code of each, and what the outcome of a chain of tests says.
 use Rattle.std.specs.Prelude.{ℕ, Result, Ok, Err}
-use Rattle.model.specs.declared.Machine.{Machine}
 use Rattle.model.specs.Constants.{NOT_SUPPORTED, INVALID, NO_MEMORY, BUSY, DENIED, ABORTED, NO_DATA}
-use Rattle.model.specs.Reply.{Verdict, passes, refused, with_error}
+use Rattle.model.specs.Reply.{Verdict, passes, refused}
 use Rattle.parts.specs.declared.refusal.Refusal.{Refusal}
 use Rattle.parts.specs.declared.refusal.Refusal.TheVariants.{NotSupported, Invalid, NoMemory, Busy, Denied, Aborted, NoData}
 
@@ -19,8 +18,3 @@ code_of NoData = NO_DATA
 unfoldable pub verdict_of : {A : Type 0} → Result A Refusal → Verdict
 verdict_of (Ok x) = passes
 verdict_of (Err refusal) = refused (code_of refusal)
-
--- the machine after a call that came to this: what it left, or the error
-unfoldable pub answered : Machine → Result Machine Refusal → Machine
-answered m (Ok next) = next
-answered m (Err refusal) = with_error m (code_of refusal)

@@ -8,9 +8,9 @@ use model::{Registers, VmId};
 
 // Register i of guest g.
 #[tactic(auto, unfolding(model::specs::State::register, model::specs::State::registers_at))]
-pub fn register(files: [Registers; 8], g: VmId, i: usize) -> u32
+pub fn register(files: &[Registers; 8], g: VmId, i: usize) -> u32
     requires { (g.0 < GUESTS) × (i < 8) }
-    ensures { result ≡ register (registers_at files g) i }
+    ensures { result ≡ register (registers_at files.now g) i }
 {
     files[g.0 as usize].r[i]
 }

@@ -4,18 +4,18 @@ ghost use Rattle.std.specs.Prelude.{◌≡◌, ◌<◌};
 ghost use Rattle.model.specs.Constants.{GUESTS};
 ghost use Rattle.model.specs.State.{argument};
 ghost use Rattle.model.specs.Reply.{with_error, succeeded, handed_over};
-ghost use Rattle.parts.specs.Refusal.{code_of, answered};
+ghost use Rattle.parts.specs.Refusal.{code_of};
 
 use crate::{Refusal, codes, registers};
 use model::{Machine, VmId};
 
 // A register of the caller.
 #[tactic(auto, unfolding(model::specs::State::argument, model::specs::State::own_registers))]
-pub fn argument(machine: Machine, i: usize) -> u32
-    requires { (machine.current.0 < GUESTS) × (i < 8) }
-    ensures { result ≡ argument machine i }
+pub fn argument(machine: &Machine, i: usize) -> u32
+    requires { (machine.now.current.0 < GUESTS) × (i < 8) }
+    ensures { result ≡ argument machine.now i }
 {
-    registers::register(machine.registers, machine.current, i)
+    registers::register(&machine.registers, machine.current, i)
 }
 
 // An error: R0 and R2 of the caller, and nothing else.
@@ -28,18 +28,6 @@ pub fn with_error(mut machine: Machine, refusal: Refusal) -> Machine
     registers::write(&mut machine.registers, caller, 0, codes::ERROR);
     registers::write(&mut machine.registers, caller, 2, refusal.into());
     machine
-}
-
-// A call that came to this: the machine that it left, or the error.
-#[tactic(auto, unfolding(crate::specs::Refusal::answered))]
-pub fn answered(machine: Machine, outcome: Result<Machine, Refusal>) -> Machine
-    requires { machine.current.0 < GUESTS }
-    ensures { result ≡ answered machine outcome }
-{
-    match outcome {
-        Ok(next) => next,
-        Err(refusal) => with_error(machine, refusal),
-    }
 }
 
 // Success in the caller's R0.

@@ -10,13 +10,13 @@ use Rattle.control.proofs.send.addressed.Goals as goal
 pub returns-then-eq-clause-verdict : goal.returns-then-eq-clause-verdict
 unfolding same_vm code_of verdict_of
 returns-then-eq-clause-verdict c =
-    to_itself c.args.machine c.argument.ensures c.vm_of.ensures c.in_ok-receiver.ensures.ok_part c.eq.ensures
+    to_itself c.args.machine.now c.argument.ensures c.vm_of.ensures c.in_ok-receiver.ensures.ok_part c.eq.ensures
     c.if-eq.true
 
 pub returns-then-busy-clause-verdict : goal.returns-then-busy-clause-verdict
 unfolding same_vm inbox_at code_of verdict_of
 returns-then-busy-clause-verdict c =
-    to_busy c.args.machine c.argument.ensures c.vm_of.ensures c.in_ok-receiver.ensures.ok_part c.eq.ensures
+    to_busy c.args.machine.now c.argument.ensures c.vm_of.ensures c.in_ok-receiver.ensures.ok_part c.eq.ensures
     c.if-eq.false
     (grind arith)
     (grind arith)
@@ -27,7 +27,7 @@ returns-then-busy-clause-verdict c =
 pub returns-clause-verdict : goal.returns-clause-verdict
 unfolding same_vm inbox_at code_of verdict_of
 returns-clause-verdict c =
-    to_free c.args.machine c.argument.ensures c.vm_of.ensures c.in_ok-receiver.ensures.ok_part c.eq.ensures
+    to_free c.args.machine.now c.argument.ensures c.vm_of.ensures c.in_ok-receiver.ensures.ok_part c.eq.ensures
     c.if-eq.false
     (grind arith)
     (grind arith)

@@ -21,9 +21,9 @@ pub returns-then-bases_ascend-clause-good : goal.returns-then-bases_ascend-claus
 unfolding receiver_in ◌and◌ same_vm
 returns-then-bases_ascend-clause-good c =
     let guest = vm_found _ _ (sym c.vm_of.ensures ∙ c.in_ok-receiver.was) in
-    let other : not (same_vm c.in_ok-receiver.receiver c.args.machine.current) ≡ true = sym c.if-ne.ensures in
+    let other : not (same_vm c.in_ok-receiver.receiver c.args.machine.now.current) ≡ true = sym c.if-ne.ensures in
     sym
-    (tests_left c.args.kind c.args.machine c.args.length c.args.tx.now _ guest.0 guest.1 (sym c.in_ok-pages.ensures.based)
+    (tests_left c.args.kind c.args.machine.now c.args.length c.args.tx.now _ guest.0 guest.1 (sym c.in_ok-pages.ensures.based)
     ∙ rw (sym c.if-header_fits.ensures, other, sym c.if-bases_ascend.ensures))
 
 pub returns-then-bases_ascend-clause-read : goal.returns-then-bases_ascend-clause-read
@@ -36,5 +36,5 @@ pub returns-else-header_fits-clause-good : goal.returns-else-header_fits-clause-
 unfolding receiver_in ◌and◌ same_vm
 returns-else-header_fits-clause-good c =
     let guest = vm_found _ _ (sym c.vm_of.ensures ∙ c.in_ok-receiver.was) in
-    let left = tests_left c.args.kind c.args.machine c.args.length c.args.tx.now _ guest.0 guest.1 (sym c.in_ok-pages.ensures.based) in
+    let left = tests_left c.args.kind c.args.machine.now c.args.length c.args.tx.now _ guest.0 guest.1 (sym c.in_ok-pages.ensures.based) in
     grind rules

@@ -1,7 +1,20 @@
+-- `offers::sending::sending`: what the tests come to is sent, or told.
+use Rattle.std.proofs.Common.{ap, sym, ◌∙◌}
+use Rattle.model.specs.declared.Machine.{Machine}
 use Rattle.model.specs.Sending.{sending_effect}
-use Rattle.parts.proofs.Answers.{answered-answer}
+use Rattle.model.specs.State.{state}
+use Rattle.parts.proofs.Answers.{refusal, success}
+use Rattle.parts.specs.Refusal.{verdict_of}
 use Rattle.offers.proofs.sending.sending.Goals as goal
 
-pub returns : goal.returns
-unfolding sending_effect
-returns c = rw c.answered.ensures (answered-answer _ _ _ _ c.tried.ensures.tests c.tried.ensures.left)
+pub returns-in-Ok : goal.returns-in-Ok
+unfolding sending_effect verdict_of
+returns-in-Ok c =
+    ap (λ (next : Machine). state next c.args.mem.now) (c.sent.ensures ∙ c.in-Ok.ensures.sent)
+    ∙ success (state c.args.machine c.args.mem.now) (sym c.in-Ok.ensures.tests)
+
+pub returns-in-Err : goal.returns-in-Err
+unfolding sending_effect verdict_of
+returns-in-Err c =
+    ap (λ (next : Machine). state next c.args.mem.now) c.with_error.ensures
+    ∙ refusal c.args.machine c.args.mem.now _ (sym c.in-Err.ensures.tests)

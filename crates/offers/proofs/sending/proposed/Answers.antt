@@ -1,13 +1,12 @@
--- `offers::sending::tried`: at each way out, the test that fails there is the first one of the verdict that does.
+-- `offers::sending::proposed`: at each way out, the test that fails there is the first one of the verdict that does.
 use Rattle.std.proofs.Common.{ap, arith, rules, sym, ◌≡◌, ◌∙◌, Option, None, Some, Err, is_ok}
 use Rattle.std.specs.Option.{ok_or}
 use Rattle.std.proofs.lemmas.Bool.{false≢true}
 use Rattle.isa.specs.Tests.{◌and◌}
-use Rattle.model.specs.State.{state}
 use Rattle.parts.specs.Refusal.{code_of, verdict_of}
 use Rattle.parts.proofs.Answers.{need_fails, need_passes}
 use Rattle.offers.proofs.Offer.{ill_formed, told, tx_inside, tx_long, tx_part, wrong_length}
-use Rattle.offers.proofs.sending.tried.Goals as goal
+use Rattle.offers.proofs.sending.proposed.Goals as goal
 
 pub returns-then-not-contains-clause-tests : goal.returns-then-not-contains-clause-tests
 unfolding ◌and◌ verdict_of code_of
@@ -73,8 +72,8 @@ returns-then-not-granted-clause-tests c =
     in
     sym (t.verdict ∙ need_passes _ _ (sym c.if-not-all_have.ensures) ∙ need_fails _ _ (sym c.if-not-granted.ensures))
 
-pub sent-requires : goal.sent-requires
-sent-requires c =
+pub returns-clause-sendable : goal.returns-clause-sendable
+returns-clause-sendable c =
     let t =
     told c.args.kind _ c.args.mem.now c.in_ok-proposal.proposal c.requires.0 c.argument-words.ensures (search rules) (search rules)
     (tx_part _ c.args.mem.now _ c.mailbox_at.ensures) c.owned_row.ensures
@@ -92,11 +91,11 @@ returns-clause-tests c =
     in
     sym (t.verdict ∙ need_passes _ _ (sym c.if-not-all_have.ensures) ∙ need_passes _ _ (sym c.if-not-granted.ensures))
 
-pub returns-clause-left : goal.returns-clause-left
-returns-clause-left c =
+pub returns-clause-sent : goal.returns-clause-sent
+returns-clause-sent c =
     let t =
     told c.args.kind _ c.args.mem.now c.in_ok-proposal.proposal c.requires.0 c.argument-words.ensures (search rules) (search rules)
     (tx_part _ c.args.mem.now _ c.mailbox_at.ensures) c.owned_row.ensures
     c.proposal_in.ensures.good c.proposal_in.ensures.read c.in_ok-proposal.ensures.ok_part (search rules)
     in
-    ap (λ next. state next c.args.mem.now) (c.sent.ensures ∙ t.left)
+    t.left
