@@ -33,7 +33,7 @@ fn polled(mut machine: Machine, message: Message) -> Machine
 }
 
 // NO_DATA where nothing waits, else the message is taken.
-#[tactic(auto, using(parts::proofs::Answers::caller_below), unfolding(crate::proofs::Control::answering, model::specs::Poll::poll_effect, model::specs::Poll::poll_verdict, model::specs::State::is_empty))]
+#[tactic(auto, using(parts::proofs::Answers::caller_below), unfolding(parts::proofs::Answers::answering, model::specs::Poll::poll_effect, model::specs::Poll::poll_verdict, model::specs::State::is_empty))]
 pub fn poll(machine: Machine) -> Machine
     requires { sound machine ≡ true }
     ensures { (memory : List ℕ) → state result memory ≡ poll_effect (state machine memory) }

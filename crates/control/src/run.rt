@@ -9,7 +9,7 @@ use model::Machine;
 use parts::{numbers, reply};
 
 // The guest in R1 is current, and no register changes; or the error.
-#[tactic(auto, using(parts::proofs::Answers::caller_below), unfolding(crate::proofs::Control::answering, model::specs::Run::run_effect, model::specs::Run::run_verdict))]
+#[tactic(auto, using(parts::proofs::Answers::caller_below), unfolding(parts::proofs::Answers::answering, model::specs::Run::run_effect, model::specs::Run::run_verdict))]
 pub fn run(machine: Machine) -> Machine
     requires { sound machine ≡ true }
     ensures { (memory : List ℕ) → state result memory ≡ run_effect (state machine memory) }

@@ -14,7 +14,7 @@ use model::{Machine, Message, PageId, VmId};
 use parts::{Refusal, codes, inboxes, numbers, registers, reply};
 
 // To whom, and how many words, if the tests pass, in their order: another guest, a page at most, and an empty inbox.
-#[tactic(auto, using(parts::proofs::Answers::caller_below, parts::proofs::Named::no_vm, crate::proofs::Control::guests_few, parts::proofs::Named::vm_found, crate::proofs::Control::named_below), unfolding(crate::proofs::Control::answering, isa::proofs::Tests::joined, model::specs::Reply::is_other, model::specs::Send::send_length, model::specs::Send::send_to, model::specs::Send::send_verdict))]
+#[tactic(auto, using(parts::proofs::Answers::caller_below, parts::proofs::Named::no_vm, parts::proofs::Answers::guests_few, parts::proofs::Named::vm_found, parts::proofs::Named::named_below), unfolding(parts::proofs::Answers::answering, isa::proofs::Tests::joined, model::specs::Reply::is_other, model::specs::Send::send_length, model::specs::Send::send_to, model::specs::Send::send_verdict))]
 fn addressed(machine: &Machine) -> Result<(VmId, u32), Refusal>
     requires { sound machine.now ≡ true }
     ensures verdict { verdict_of result ≡ send_verdict machine.now }
@@ -78,7 +78,7 @@ fn copied(mem: &mut [u32], tx: PageId, rx: PageId, words: usize)
 }
 
 // The words go over, and guest 0 hears of it from a secondary; or the error.
-#[tactic(auto, using(parts::proofs::Answers::caller_below, crate::proofs::Control::guests_few), unfolding(crate::proofs::Control::answering, model::specs::Memory::tx_words, model::specs::Send::copied, model::specs::Send::delivered, model::specs::Send::send_base, model::specs::Send::send_effect, model::specs::State::own_mailbox))]
+#[tactic(auto, using(parts::proofs::Answers::caller_below, parts::proofs::Answers::guests_few), unfolding(parts::proofs::Answers::answering, model::specs::Memory::tx_words, model::specs::Send::copied, model::specs::Send::delivered, model::specs::Send::send_base, model::specs::Send::send_effect, model::specs::State::own_mailbox))]
 pub fn send(machine: Machine, mem: &mut [u32]) -> Machine
     requires { (sound machine ≡ true) × (length mem.old ≡ PAGE * machine.m) }
     ensures { state result mem.new ≡ send_effect (state machine mem.old) }

@@ -10,7 +10,7 @@ use model::Machine;
 use parts::{Refusal, codes, reply};
 
 // A waiting message first; then who calls decides.
-#[tactic(auto, using(parts::proofs::Answers::caller_below), unfolding(crate::proofs::Control::answering, model::specs::State::is_empty, model::specs::Wait::wait_effect, model::specs::Wait::wait_verdict))]
+#[tactic(auto, using(parts::proofs::Answers::caller_below), unfolding(parts::proofs::Answers::answering, model::specs::State::is_empty, model::specs::Wait::wait_effect, model::specs::Wait::wait_verdict))]
 pub fn wait(machine: Machine) -> Machine
     requires { sound machine ≡ true }
     ensures { (memory : List ℕ) → state result memory ≡ wait_effect (state machine memory) }

@@ -41,7 +41,7 @@ fn yielded(r: &mut [u32; 8], caller: VmId) -> Switch
 }
 
 // Run: the guest in R1, if the tests pass.
-#[tactic(auto, unfolding(crate::specs::Switch::run_switch, isa::proofs::Tests::joined, model::specs::Reply::need, parts::specs::Refusal::code_of, parts::specs::Refusal::verdict_of))]
+#[tactic(auto, unfolding(crate::specs::Switch::run_switch, isa::proofs::Tests::joined, parts::proofs::Answers::answering))]
 fn to_run(r: &mut [u32; 8], caller: VmId, n: u8) -> Switch
     ensures { switched result r.new ≡ run_switch r.old caller n }
 {

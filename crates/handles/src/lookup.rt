@@ -41,7 +41,7 @@ fn in_place(machine: &Machine, h: Handle, d: Deal) -> bool
 
 // The tests behind the look-up, in their order: the caller is the party that may, the retrieved mark is as it must be, and
 // each page has its row.
-#[tactic(auto, using(parts::proofs::Answers::need_fails, parts::proofs::Answers::need_passes), unfolding(parts::specs::Refusal::verdict_of, parts::specs::Refusal::code_of))]
+#[tactic(auto, unfolding(parts::proofs::Answers::answering))]
 pub fn tested(machine: &Machine, h: Handle, d: Deal, may: bool, marked: bool) -> Result<(), Refusal>
     requires { Dealt machine.now h d }
     ensures { verdict_of result ≡ need may DENIED (need marked DENIED (need (in_place machine.now h d) ABORTED passes)) }

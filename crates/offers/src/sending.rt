@@ -89,7 +89,7 @@ fn proposed(kind: Kind, machine: &Machine, mem: &[u32]) -> Result<Proposal, Refu
 }
 
 // It is sent, or the caller is told the error.
-#[tactic(auto, using(parts::proofs::Answers::caller_below))]
+#[tactic(auto, using(parts::proofs::Answers::caller_below), unfolding(model::specs::Sending::sending_effect, parts::proofs::Answers::answering))]
 pub fn sending(kind: Kind, machine: Machine, mem: &[u32]) -> Machine
     requires { (sound machine ≡ true) × (length mem.now ≡ PAGE * machine.m) }
     ensures { state result mem.now ≡ sending_effect kind (state machine mem.now) }

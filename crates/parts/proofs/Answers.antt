@@ -1,7 +1,6 @@
 -- What the proofs of the calls share: the caller is a guest; which way a chain of tests goes; what a refused call and a call
 -- that passes leave; guest 0 made current by a primary and by a secondary.
-
-use Prim.Native.Nat.{ℕ, ◌<◌}
+use Prim.Native.Nat.{ℕ, ◌≤◌, ◌<◌}
 use mathlib.Core.Path.{◌≡◌, refl, sym}
 use mathlib.Core.Bool.{Bool, true, false}
 use mathlib.Core.List.{List}
@@ -12,17 +11,24 @@ use Rattle.model.specs.Constants.{GUESTS}
 use Rattle.model.specs.State.{State, state, primary, is_primary, written, with_registers, with_current}
 use Rattle.model.specs.Reply.{Verdict, passes, refused, need, with_error, answer, told, woken, handed_over}
 use Rattle.model.specs.Sound.{sound}
-
+use Rattle.parts.specs.Refusal.{code_of, verdict_of}
 use Rattle.isa.specs.Tests.{◌and◌}
 use Rattle.model.proofs.Reply.{answer_passes}
 use Rattle.model.proofs.Same.{same_vm_true}
 use Rattle.model.proofs.Sound.{sound_holds}
 
+-- what opens a call's verdict and its answer, to be named at a function
+unfoldable pub answering : Unit {0}
+unfolding need answer code_of verdict_of
+answering = tt
+
+pub guests_few : (m : Machine) → sound m ≡ true → m.n ≤ GUESTS
+guests_few m e = (sound_holds m e).counts_in_range.eight_guests
+
 pub caller_below : (m : Machine) → sound m ≡ true → m.current.0 < GUESTS
 caller_below m e =
-    let whole = sound_holds m e in
-    let below : m.current.0 < m.n = whole.current_below in
-    let few = whole.counts_in_range.eight_guests in
+    let below : m.current.0 < m.n = (sound_holds m e).current_below in
+    let few = guests_few m e in
     omega arith
 
 -- A chain of tests: one that fails ends it, one that passes leaves the rest.

@@ -5,7 +5,7 @@ use mathlib.Core.Path.{◌≡◌, refl}
 use mathlib.Core.Bool.{Bool, true, false, cond}
 use native.Mathlib.Omega.{arith}
 use lib.Dec.{ltb}
-use borrow.Author.Tests.{lt-ltb, le-ltb}
+use borrow.Author.Tests.{lt-ltb, le-ltb, ltb-true}
 use Rattle.isa.proofs.Tests.{cond_left}
 use Rattle.model.specs.declared.VmId.{VmId}
 use Rattle.model.specs.declared.PageId.{PageId}
@@ -32,6 +32,12 @@ unfolding vm_of
 vm_found w n {g} e =
     let found : (ltb w n ≡ true) × (◌≡◌ {A = Option VmId} (Some (vm w)) (Some g)) = cond_left _ _ _ _ (λ q. cc) e in
     (found.0, cc)
+
+pub named_below : (w n : ℕ) {g : VmId} → vm_of w n ≡ Some g → g.0 < n
+named_below w n e =
+    let guest = vm_found w n e in
+    let below : w < n = ltb-true _ _ guest.0 in
+    rw (← guest.1) below
 
 pub no_vm : (w n : ℕ) → vm_of w n ≡ None → ltb w n ≡ false
 unfolding vm_of

@@ -1,19 +1,15 @@
 -- A set of guests fits a byte: a guest's own bit does, and so does a set with a bit more.
 use Prim.Native.Nat.{ℕ, suc, ◌+◌, ◌-◌, ◌*◌, ◌/◌, ◌%◌, ◌^◌, ◌<◌}
-use mathlib.Core.Path.{◌≡◌, ◌∙◌}
+use mathlib.Core.Path.{◌≡◌}
 use mathlib.Core.Bool.{false}
-use native.Mathlib.Nat.{one-mul, pow-succ', add-div_right, div-lt_iff_lt-mul}
+use native.Mathlib.Nat.{pow-succ', add-div_right, div-lt_iff_lt-mul}
 use native.Mathlib.Omega.{arith}
-use lib.Pow.{pow_pos, pow-add, shl_exact, shr_lt}
+use lib.Pow.{pow_pos, pow-add, shr_lt}
 use borrow.Author.Tests.{eqb-false}
 use Rattle.model.specs.declared.VmId.{VmId}
 use Rattle.model.specs.declared.VmSet.{VmSet}
 use Rattle.model.specs.Constants.{GUESTS}
 use Rattle.model.specs.VmSet.{has, only}
-
--- guest g's bit: nothing is shifted out of the byte
-pub own_bit : (g : ℕ) → g < GUESTS → 1 * 2 ^ g % 256 ≡ 2 ^ g
-own_bit g h = shl_exact 1 g 8 (omega arith) (omega arith) ∙ one-mul (2 ^ g)
 
 -- a clear bit g set: the number has no more digits than before
 add_bit : (j g x : ℕ) → x < 2 ^ (suc j + g) → x / 2 ^ g % 2 ≡ 0 → x + 2 ^ g < 2 ^ (suc j + g)

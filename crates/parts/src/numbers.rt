@@ -24,7 +24,7 @@ pub fn vm_of(w: u32, n: u8) -> Option<VmId>
 }
 
 // The guest that the call Run names, if its tests pass, in their order: guest 0 asks, and the word names another guest.
-#[tactic(auto, using(crate::proofs::Named::vm_found, crate::proofs::Named::no_vm), unfolding(crate::specs::Refusal::code_of, crate::specs::Refusal::verdict_of, isa::proofs::Tests::joined, model::specs::Reply::need, model::specs::State::is_primary, model::specs::State::same_vm))]
+#[tactic(auto, using(crate::proofs::Named::vm_found, crate::proofs::Named::no_vm), unfolding(crate::proofs::Answers::answering, isa::proofs::Tests::joined, model::specs::State::is_primary, model::specs::State::same_vm))]
 pub fn next_guest(caller: VmId, word: u32, n: u8) -> Result<VmId, Refusal>
     ensures verdict { verdict_of result ≡ need (is_primary caller) DENIED (need (leb 1 word and ltb word n) INVALID passes) }
     ensures named { IfOk result (λ g. g ≡ vm word) }

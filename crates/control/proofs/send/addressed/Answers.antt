@@ -3,7 +3,7 @@
 use Rattle.std.proofs.Common.{arith, refl}
 use Rattle.model.specs.State.{same_vm, inbox_at}
 use Rattle.parts.specs.Refusal.{code_of, verdict_of}
-use Rattle.control.proofs.Control.{named_below}
+use Rattle.parts.proofs.Named.{named_below}
 use Rattle.control.proofs.Message.{to_busy, to_free, to_itself}
 use Rattle.control.proofs.send.addressed.Goals as goal
 
