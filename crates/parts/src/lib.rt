@@ -1,7 +1,7 @@
-// What the layers above share, in small functions over parts of the state. Here: sets of guests, the questions about a
-// kind, the rows of the table of page records, and whether two records are the same. In the modules: words that become
-// numbers of guests and pages, register files, inboxes, the pages of a transaction, the numbers of calls and answers, and
-// how a call is answered.
+// What the layers above share, in small functions over parts of the state. Here: the test of the counts, sets of guests, the
+// questions about a kind, the rows of the table of page records, and whether two records are the same. In the modules: words
+// that become numbers of guests and pages, register files, mailboxes, the pages of a transaction, the numbers of calls and
+// answers, and how a call is answered.
 //
 // A function means what the model's definition of the same name says (those of `numbers` what `specs/Numbers.antt` says).
 // Nothing else in the code makes a row or asks about a kind, and a guest's word becomes a number of a guest or a page in
