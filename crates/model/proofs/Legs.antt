@@ -4,7 +4,7 @@
 use Rattle.model.specs.ToCall.{made, is_called, calls_next, Leg, leg, leg_after_step, to_call, went_to_call, went_to_call_by, run_to_call_of, line_of, lines_from}
 use Rattle.std.specs.Prelude.{Option, None, Some}
 use Rattle.model.specs.declared.MadeCall.{MadeCall}
-use Prim.Native.Nat.{ℕ, zero, suc, ◌+◌, ◌-◌, ◌≤◌, ◌<◌}
+use Prim.Native.Nat.{ℕ, zero, suc, ◌+◌, ◌-◌, ◌<◌}
 use mathlib.Core.Path.{◌≡◌, refl, sym, ap, ◌∙◌}
 use mathlib.Core.Bool.{Bool, true, false, false≢true}
 use mathlib.Core.List.{[], ◌∷◌}
@@ -25,6 +25,7 @@ use Rattle.model.specs.PCases.{box, owned, ownerless, words}
 use Rattle.model.specs.Legs.{EndsInCall, LegIsItsSteps, LegRefused, LinesEnd, line_for, ThenRest, LegThenRest, two_guests, programs, shown, line, BenchExample}
 use Rattle.model.proofs.Acts.{effect_of, after_done, accepted_done, steps_on}
 use Rattle.model.proofs.Kept.{act_keeps_accepted, accepted_for_ever}
+use Rattle.model.proofs.RunSteps.{Along, along_none, along_more}
 use Rattle.model.proofs.Computing.{entries_compute}
 
 -- What is left: the leg where the answer is 0, else the state as it was.
@@ -75,21 +76,17 @@ no_call_at s e = rw (e, call_at)
 
 -- what is proved of the leg within a budget
 record Gone (s : State) (budget : ℕ) (l : Leg) : Type 0 where
-  is_stepped : l.reached ≡ stepped l.count s
-  within_budget : l.count ≤ budget
-  each_normal : (i : ℕ) → i < l.count → is_normal (stepped i s).machine.mode ≡ true
+  along : Along s budget l.count l.reached
   no_call_before : (i : ℕ) → i + 1 < l.count → calls_next (stepped i s) ≡ false
   names_last : l.call ≡ last_call l.count s
   stops_short : l.call ≡ None → l.count < budget → is_normal l.reached.machine.mode ≡ false
 
 -- no step
 gone_none : (s : State) (budget : ℕ) → (0 < budget → is_normal s.machine.mode ≡ false) → Gone s budget (leg s 0 None)
-unfolding after_all stepped last_call
+unfolding last_call
 gone_none s budget h =
     record {
-      is_stepped = refl;
-      within_budget = omega arith;
-      each_normal = λ i b. absurd (omega arith);
+      along = along_none s budget;
       no_call_before = λ i b. absurd (omega arith);
       names_last = refl;
       stops_short = λ none b. h b;
@@ -101,35 +98,23 @@ module _ (s : State) (budget : ℕ) (normal : is_normal s.machine.mode ≡ true)
   unfolding after_all stepped last_call
   gone_call e =
       record {
-        is_stepped = refl;
-        within_budget = omega arith;
-        each_normal = each;
+        along = along_more s normal (along_none (after step s) budget);
         no_call_before = λ i b. absurd (omega arith);
         names_last = sym (call_at_lem s e);
         stops_short = λ none b. absurd (false≢true cc);
       }
-    where
-      each : (i : ℕ) → i < 1 → is_normal (stepped i s).machine.mode ≡ true
-      each zero b = normal
-      each (suc i) b = absurd (omega arith)
 
   -- one more, in front
   gone_more : (l : Leg) → calls_next s ≡ false → Gone (after step s) budget l → Gone s (suc budget) (leg_after_step l)
   unfolding leg_after_step after_all stepped last_call
   gone_more l e rest =
       record {
-        is_stepped = rest.is_stepped ∙ ap (λ (c : ℕ). stepped c s) (sym (add-one l.count));
-        within_budget = omega (arith, rest.within_budget);
-        each_normal = each;
+        along = along_more s normal rest.along;
         no_call_before = none;
         names_last = rest.names_last ∙ later l.count ∙ ap (λ (c : ℕ). last_call c s) (sym (add-one l.count));
         stops_short = λ named b. rest.stops_short named (omega arith);
       }
     where
-      each : (i : ℕ) → i < l.count + 1 → is_normal (stepped i s).machine.mode ≡ true
-      each zero b = normal
-      each (suc i) b = rest.each_normal i (omega arith)
-
       none : (i : ℕ) → i + 1 < l.count + 1 → calls_next (stepped i s) ≡ false
       none zero b = e
       none (suc i) b = rest.no_call_before i (omega arith)
@@ -176,7 +161,7 @@ last_named s count g w ends =
     ∙ (λ i. Some (made (ends.caller i) (ends.r0 i)))
 
 -- what a run up to a call leaves where the check accepts
-leg_goes : (s : State) → Accepted s → (budget : ℕ) → run_to_call_of s.machine s.memory budget ≡ went_to_call Done (to_call budget s)
+pub leg_goes : (s : State) → Accepted s → (budget : ℕ) → run_to_call_of s.machine s.memory budget ≡ went_to_call Done (to_call budget s)
 unfolding answer_number answers run_to_call_of
 leg_goes s ok budget = rw ok.answers_0 (leg_done Done budget s refl)
 
@@ -186,11 +171,11 @@ leg_is_its_steps s ok budget =
     let all = gone budget s ok in
     rw (leg_goes s ok budget) (record {
       answers_0 = refl;
-      is_stepped = all.is_stepped;
-      within_budget = all.within_budget;
-      each_normal = all.each_normal;
+      is_stepped = all.along.is_stepped;
+      within_budget = all.along.within_budget;
+      each_normal = all.along.each_normal;
       each_answers_0 = λ i b.
-          accepted_done step (stepped i s) (accepted_for_ever s ok (replicate i step)).answers_0 (all.each_normal i b);
+          accepted_done step (stepped i s) (accepted_for_ever s ok (replicate i step)).answers_0 (all.along.each_normal i b);
       no_call_before = all.no_call_before;
       named_is_last = λ g w named. last_found s _ g w (sym all.names_last ∙ named);
       last_is_named = λ g w ends. all.names_last ∙ last_named s _ g w ends;

@@ -23,10 +23,11 @@ use Rattle.model.specs.Act.{step}
 use Rattle.model.specs.Kept.{Accepted}
 use Rattle.model.specs.RunSteps.{stepped}
 use Rattle.model.specs.Legs.{EndsInCall, LegSteps, line_for}
-use Rattle.model.proofs.Acts.{went_done, went_refused, steps_off}
+use Rattle.model.proofs.Acts.{went_refused, steps_off}
+use Rattle.model.proofs.RunSteps.{run_goes}
 use Rattle.model.proofs.Entries.{is_done_lem}
 use Rattle.model.proofs.Kept.{accepted_fit, accepted_for_ever}
-use Rattle.model.proofs.Legs.{leg_done, leg_is_its_steps, refused_leg, leg_then_rest, lines_end}
+use Rattle.model.proofs.Legs.{leg_goes, leg_is_its_steps, refused_leg, leg_then_rest, lines_end}
 use Rattle.runs.proofs.Fits.{current_below}
 use Rattle.lines.specs.Text.{line_text}
 use Rattle.show.specs.Told.{lines_text, lines_if, calls_from, Rest, rest, behind, last_line, rest_of}
@@ -49,14 +50,6 @@ lines_then : (ls ks : List Line) (r : Rest) → behind (lines_text (ls ++ ks)) r
 lines_then ls ks r = rw (lines_append ls ks) (behind_behind (lines_text ls) (lines_text ks) r)
 
 -- What a run leaves where the check accepts, and where it refuses.
-
-run_goes : (s : State) → Accepted s → (budget : ℕ) → run_of s.machine s.memory budget ≡ went Done (steps budget s)
-unfolding answer_number answers run_of
-run_goes s ok budget = rw ok.answers_0 (went_done Done budget s refl)
-
-leg_goes : (s : State) → Accepted s → (budget : ℕ) → run_to_call_of s.machine s.memory budget ≡ went_to_call Done (to_call budget s)
-unfolding answer_number answers run_to_call_of
-leg_goes s ok budget = rw ok.answers_0 (leg_done Done budget s refl)
 
 run_refused : (m : Machine) (memory : List ℕ) (budget : ℕ) → is_done (check_of m memory) ≡ false
     → run_of m memory budget ≡ went (check_of m memory) (still (state m memory))
