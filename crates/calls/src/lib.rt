@@ -78,6 +78,6 @@ pub fn call(machine: Machine, mem: &mut [u32]) -> Machine
 {
     match CallName::try_from(reply::argument(&machine, 0)) {
         Ok(called) => made(called, machine, mem),
-        Err(refusal) => reply::with_error(machine, refusal),
+        Err(refusal) => reply::with_error(machine, refusal.into()),
     }
 }

@@ -39,7 +39,7 @@ pub fn poll(machine: Machine) -> Machine
     ensures { (memory : List ℕ) → state result memory ≡ poll_effect (state machine memory) }
 {
     let Some(message) = own_inbox(&machine) else {
-        return reply::with_error(machine, Refusal::NoData);
+        return reply::with_error(machine, Refusal::NoData.into());
     };
     polled(machine, message)
 }

@@ -16,6 +16,6 @@ pub fn run(machine: Machine) -> Machine
 {
     match numbers::next_guest(machine.current, reply::argument(&machine, 1), machine.n) {
         Ok(current) => Machine { current, ..machine },
-        Err(refusal) => reply::with_error(machine, refusal),
+        Err(refusal) => reply::with_error(machine, refusal.into()),
     }
 }

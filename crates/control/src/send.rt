@@ -85,7 +85,7 @@ pub fn send(machine: Machine, mem: &mut [u32]) -> Machine
 {
     let (receiver, words) = match addressed(&machine) {
         Ok(to) => to,
-        Err(refusal) => return reply::with_error(machine, refusal),
+        Err(refusal) => return reply::with_error(machine, refusal.into()),
     };
     let tx = inboxes::mailbox_at(&machine.mailboxes, machine.current).tx;
     let rx = inboxes::mailbox_at(&machine.mailboxes, receiver).rx;

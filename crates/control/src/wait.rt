@@ -19,7 +19,7 @@ pub fn wait(machine: Machine) -> Machine
         return poll::poll(machine);
     }
     if parts::is_primary(machine.current) {
-        return reply::with_error(machine, Refusal::NoData);
+        return reply::with_error(machine, Refusal::NoData.into());
     }
     reply::handed_over(reply::succeeded(machine), codes::WAIT)
 }

@@ -45,10 +45,10 @@ pub fn on_handle<C: HandleCall>(machine: Machine) -> Machine
     ensures { (memory : List ℕ) → state result memory ≡ handle_effect C.may C.mark C.deed (state machine memory) }
 {
     let Some((h, d)) = lookup::own_found(&machine) else {
-        return reply::with_error(machine, Refusal::Invalid);
+        return reply::with_error(machine, Refusal::Invalid.into());
     };
     match lookup::tested(&machine, h, d, C::may(d, machine.current), C::marked(d)) {
-        Err(refusal) => reply::with_error(machine, refusal),
+        Err(refusal) => reply::with_error(machine, refusal.into()),
         Ok(()) => reply::succeeded(C::deed(machine, h, d)),
     }
 }

@@ -1,6 +1,6 @@
 // The descriptor of a sending, in the caller's TX page: its length, then kind and receiver, then the bases of the pages.
 
-ghost use Rattle.std.specs.Prelude.{◌≡◌, ℕ, ◌+◌, ◌%◌, ◌≤◌, is_some, IfSome, get_or, eqb};
+ghost use Rattle.std.specs.Prelude.{◌≡◌, ◌+◌, ◌%◌, ◌≤◌, is_some, IfSome, get_or, eqb};
 ghost use Rattle.isa.specs.Tests.{◌and◌};
 ghost use Rattle.model.specs.Constants.{PLACES};
 ghost use Rattle.model.specs.Tests.{every, ascending};

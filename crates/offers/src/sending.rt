@@ -96,6 +96,6 @@ pub fn sending(kind: Kind, machine: Machine, mem: &[u32]) -> Machine
 {
     match proposed(kind, &machine, mem) {
         Ok(proposal) => sent(kind, machine, proposal),
-        Err(refusal) => reply::with_error(machine, refusal),
+        Err(refusal) => reply::with_error(machine, refusal.into()),
     }
 }

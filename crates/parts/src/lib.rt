@@ -3,9 +3,9 @@
 // that become numbers of guests and pages, register files, mailboxes, the pages of a transaction, the numbers of calls and
 // answers, and how a call is answered.
 //
-// A function means what the model's definition of the same name says (those of `numbers` what `specs/Numbers.antt` says).
-// Nothing else in the code makes a row or asks about a kind, and a guest's word becomes a number of a guest or a page in
-// `numbers` only; a handle's is tested where its transaction is looked up.
+// A function means what the model's definition of the same name says, or what its contract names (those of `numbers`
+// what `specs/Numbers.antt` says). Nothing else in the code makes a row or asks about a kind, and a guest's word becomes
+// a number of a guest or a page in `numbers` only; a handle's is tested where its transaction is looked up.
 
 #![tactic(auto)]
 

@@ -4,9 +4,8 @@ ghost use Rattle.std.specs.Prelude.{◌≡◌, ◌<◌};
 ghost use Rattle.model.specs.Constants.{GUESTS};
 ghost use Rattle.model.specs.State.{argument};
 ghost use Rattle.model.specs.Reply.{with_error, succeeded, handed_over};
-ghost use Rattle.parts.specs.Refusal.{code_of};
 
-use crate::{Refusal, codes, registers};
+use crate::{codes, registers};
 use model::{Machine, VmId};
 
 // A register of the caller.
@@ -20,13 +19,13 @@ pub fn argument(machine: &Machine, i: usize) -> u32
 
 // An error: R0 and R2 of the caller, and nothing else.
 #[tactic(auto, unfolding(model::specs::Reply::with_error))]
-pub fn with_error(mut machine: Machine, refusal: Refusal) -> Machine
+pub fn with_error(mut machine: Machine, code: u32) -> Machine
     requires { machine.current.0 < GUESTS }
-    ensures { result ≡ with_error machine (code_of refusal) }
+    ensures { result ≡ with_error machine code }
 {
     let caller = machine.current;
     registers::write(&mut machine.registers, caller, 0, codes::ERROR);
-    registers::write(&mut machine.registers, caller, 2, refusal.into());
+    registers::write(&mut machine.registers, caller, 2, code);
     machine
 }
 

@@ -8,7 +8,7 @@ ghost use Rattle.model.specs.Tests.{every};
 ghost use Rattle.model.specs.State.{same_page, page_at, count_of};
 ghost use Rattle.model.specs.Sound.{mailboxes_below};
 ghost use Rattle.parts.specs.Reached.{Reached};
-ghost use Rattle.sound.specs.Marks.{marked, with_box, box_marks, with_held};
+ghost use Rattle.sound.specs.Marks.{marked, box_marks};
 
 use crate::pages::set_box;
 use model::{Mailbox, Transaction};

@@ -12,4 +12,4 @@ returns-in-Ok c = c.made.ensures ∙ found_call (state c.args.machine c.args.mem
 
 pub returns-in-Err : goal.returns-in-Err
 unfolding done_by refused_by answer
-returns-in-Err c = rw c.with_error.ensures (found_call (state c.args.machine c.args.mem.now) c.argument.ensures c.in-Err.ensures)
+returns-in-Err c = rw (c.with_error.ensures, c.into.ensures) (found_call (state c.args.machine c.args.mem.now) c.argument.ensures c.in-Err.ensures)

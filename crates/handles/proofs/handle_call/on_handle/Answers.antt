@@ -13,12 +13,12 @@ deed-requires g c = found_dealt _ _ _ c.requires (sym c.own_found.ensures ∙ c.
 pub returns-in_default : goal.returns-in_default
 unfolding code_of
 returns-in_default g c memory =
-    rw c.with_error.ensures (nothing_found _ _ _ _ memory (sym c.own_found.ensures ∙ c.in_default.is))
+    rw (c.with_error.ensures, c.into.ensures) (nothing_found _ _ _ _ memory (sym c.own_found.ensures ∙ c.in_default.is))
 
 pub returns-in-Err : goal.returns-in-Err
 unfolding verdict_of
 returns-in-Err g c memory =
-    rw c.with_error-in-Err.ensures
+    rw (c.with_error-in-Err.ensures, c.into-in-Err.ensures)
     (test_failed _ _ _ _ memory (sym c.own_found.ensures ∙ c.in-Some.is) c.may.ensures c.marked.ensures c.in-Err.ensures)
 
 pub returns-in-Ok : goal.returns-in-Ok
