@@ -1,10 +1,9 @@
--- What a function asks of one thing, joined with the rest of a clause: the code's `|` and `&`, a test of an owner's guest or of
--- a live deal. Then what a passed test tells of one transaction.
+-- What a chain asks of each guest or each transaction, and what a passed test tells of one transaction.
 use Rattle.std.specs.Prelude.{Option, None, Some, is_some}
 use Rattle.model.specs.declared.Message.{Message}
 use Prim.Native.Nat.{ℕ, suc, ◌≤◌, ◌<◌}
 use mathlib.Core.Path.{◌≡◌, refl, sym, ◌∙◌}
-use mathlib.Core.Bool.{Bool, true, false, not, true≢false, false≢true, ◌&&◌}
+use mathlib.Core.Bool.{Bool, true, false, not, true≢false, false≢true}
 use mathlib.Core.List.{List}
 use native.Mathlib.Omega.{arith}
 use lib.Dec.{leb, ltb}
@@ -36,16 +35,6 @@ use Rattle.model.specs.declared.Registers.{Registers}
 use Rattle.model.specs.declared.Mailbox.{Mailbox}
 use Rattle.model.specs.declared.PageId.{PageId}
 use Rattle.model.specs.Tests.{every, ascending}
-
--- the code's `&` is the model's `and`
-pub asked_and : (a : Bool) {r t : Bool} → r ≡ t → (r && a) ≡ (t and a)
-unfolding ◌and◌
-asked_and a asked = rw asked
-
--- a test of a transaction: the code has found a deal, and tests it
-pub live_asked : {life : Option Deal} {d : Deal} (f : Deal → Bool) {r : Bool} → life ≡ Some d → r ≡ f d → r ≡ if_live life f
-unfolding if_live
-live_asked f e asked = rw e asked
 
 -- the library's test of an inbox
 pub nothing_waits : (inbox : Option Message) {empty : Bool} → is_some inbox ≡ not empty → empty ≡ is_empty inbox
