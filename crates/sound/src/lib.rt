@@ -1,7 +1,8 @@
 // Whether a machine is sound. One function for each clause of the definition, under the clause's name, in a file for each
-// part of the machine that the clause is about; each takes the parts that it reads, or the machine with what is known of it
-// by then. The whole is linear in the pages, the guests, and the handles with their places, in what is copied too: what a
-// function only reads is lent to it.
+// part of the machine that the clause is about; each takes the parts that it reads, and asks of them what it needs. The
+// functions here, which join the clauses, take the machine, with what is known of it by then where a clause asks for it. The
+// whole is linear in the pages, the guests, and the handles with their places, in what is copied too: what a function only
+// reads is lent to it.
 
 #![tactic(auto)]
 
@@ -38,18 +39,20 @@ fn in_range(counted: &Counted) -> bool
     ensures { result ≡ Ranges counted.now.machine.now }
 {
     let machine = counted.machine;
-    mailboxes::mailboxes_below(counted)
+    mailboxes::mailboxes_below(machine.n, machine.m, &machine.mailboxes)
         & (owners::owners_below(machine.n, machine.m, &machine.records)
             & (deals::parties_below(machine.n, &machine.transactions)
-                & places::pages_below(counted)))
+                & places::pages_below(machine.m, &machine.transactions)))
 }
 
 // No page has two uses.
 fn uses_differ(ranged: &Ranged) -> bool
     ensures { result ≡ (mailboxes_differ ranged.now.machine.now.n ranged.now.machine.now.mailboxes and pages_no_mailbox ranged.now.machine.now.n ranged.now.machine.now.mailboxes ranged.now.machine.now.transactions and no_page_twice ranged.now.machine.now.transactions) }
 {
-    mailboxes::mailboxes_differ(ranged)
-        & (places::pages_no_mailbox(ranged) & places::no_page_twice(ranged))
+    let machine = ranged.machine;
+    mailboxes::mailboxes_differ(machine.n, &machine.mailboxes)
+        & (places::pages_no_mailbox(machine.n, &machine.mailboxes, &machine.transactions)
+            & places::no_page_twice(&machine.transactions))
 }
 
 // The waiting messages.
@@ -67,7 +70,8 @@ fn deals_sound(counted: &Counted) -> bool
 {
     let machine = counted.machine;
     deals::parties_differ(&machine.transactions)
-        & (places::pages_ascend(counted) & deals::no_donation_retrieved(&machine.transactions))
+        & (places::pages_ascend(&machine.transactions)
+            & deals::no_donation_retrieved(&machine.transactions))
 }
 
 // Unused places.
@@ -100,5 +104,12 @@ pub fn is_sound(machine: &Machine) -> bool
     }
     (machine.current.0 < machine.n)
         & (messages_sound(machine)
-            & (deals_sound(&counted) & (records::records_due(&ranged) & unused_blank(machine))))
+            & (deals_sound(&counted)
+                & (records::records_due(
+                    machine.n,
+                    machine.m,
+                    &machine.mailboxes,
+                    &machine.transactions,
+                    &machine.records,
+                ) & unused_blank(machine))))
 }

@@ -4,12 +4,11 @@ ghost use Rattle.std.specs.Prelude.{◌≡◌, true, None, ℕ, ◌≤◌, ◌<�
 ghost use Rattle.model.specs.Constants.{GUESTS, PAGES, HANDLES};
 ghost use Rattle.model.specs.State.{page, record_at};
 ghost use Rattle.model.specs.Due.{due_in, due};
-ghost use Rattle.model.specs.Sound.{page_counts_in_range, owners_below, parties_below, pages_below, records_due};
+ghost use Rattle.model.specs.Sound.{page_counts_in_range, mailboxes_below, owners_below, parties_below, pages_below, records_due};
 ghost use Rattle.sound.specs.Rows.{free_rows, Held, held_rows, box_rows, Usable};
 
-use crate::known::Ranged;
 use crate::pages::set_box;
-use model::{PageRecord, Transaction, VmId};
+use model::{Mailbox, PageRecord, Transaction, VmId};
 use parts::pages::set_held;
 
 // Each of the m pages by its owner, as if it were used for nothing.
@@ -54,41 +53,50 @@ fn held_rows(transactions: &[Transaction; 16], rows: [PageRecord; 64]) -> [PageR
 
 // Over those, the mailbox pages.
 #[tactic(auto, unfolding(crate::specs::Rows::box_row, crate::specs::Rows::box_rows, crate::specs::Rows::laid, model::specs::State::mailbox_at))]
-fn box_rows(ranged: &Ranged, rows: [PageRecord; 64]) -> [PageRecord; 64]
-    ensures { result ≡ box_rows ranged.now.machine.now.n ranged.now.machine.now.mailboxes rows }
+fn box_rows(n: u8, boxes: &[Mailbox; 8], rows: [PageRecord; 64]) -> [PageRecord; 64]
+    requires { (n ≤ GUESTS) × (mailboxes_below n PAGES boxes.now ≡ true) }
+    ensures { result ≡ box_rows n boxes.now rows }
 {
-    let machine = ranged.machine;
     let mut all = rows;
-    for g in 0..machine.n {
-        let mailbox = &machine.mailboxes[g as usize];
+    for g in 0..n {
+        let mailbox = &boxes[g as usize];
         set_box(&mut all, mailbox, parts::mailbox_row(VmId(g)));
     }
     all
 }
 
 // The record due to each of the m pages.
-fn due_records(ranged: &Ranged) -> [PageRecord; 64]
-    requires { Usable ranged.now.machine.now.n ranged.now.machine.now.m ranged.now.machine.now.mailboxes ranged.now.machine.now.transactions ranged.now.machine.now.records }
-    ensures { (p : ℕ) → p < ranged.now.machine.now.m → record_at result (page p) ≡ due ranged.now.machine.now.n ranged.now.machine.now.mailboxes ranged.now.machine.now.transactions (record_at ranged.now.machine.now.records (page p)).owner (page p) }
+pub fn due_records(
+    n: u8,
+    m: u8,
+    boxes: &[Mailbox; 8],
+    transactions: &[Transaction; 16],
+    records: &[PageRecord; 64],
+) -> [PageRecord; 64]
+    requires { Usable n m boxes.now transactions.now records.now }
+    ensures { (p : ℕ) → p < m → record_at result (page p) ≡ due n boxes.now transactions.now (record_at records.now (page p)).owner (page p) }
 {
-    let machine = ranged.machine;
-    let free = free_rows(machine.n, machine.m, &machine.records);
-    let held = held_rows(&machine.transactions, free);
-    box_rows(ranged, held)
+    let free = free_rows(n, m, records);
+    let held = held_rows(transactions, free);
+    box_rows(n, boxes, held)
 }
 
 // Each of the m records is the one due.
 #[tactic(auto, unfolding(model::specs::State::record_at))]
-pub fn records_due(ranged: &Ranged) -> bool
-    requires { Usable ranged.now.machine.now.n ranged.now.machine.now.m ranged.now.machine.now.mailboxes ranged.now.machine.now.transactions ranged.now.machine.now.records }
-    ensures { result ≡ records_due ranged.now.machine.now.n ranged.now.machine.now.m ranged.now.machine.now.mailboxes ranged.now.machine.now.transactions ranged.now.machine.now.records }
+pub fn records_due(
+    n: u8,
+    m: u8,
+    boxes: &[Mailbox; 8],
+    transactions: &[Transaction; 16],
+    records: &[PageRecord; 64],
+) -> bool
+    requires { Usable n m boxes.now transactions.now records.now }
+    ensures { result ≡ records_due n m boxes.now transactions.now records.now }
 {
-    let dues = due_records(ranged);
-    let machine = ranged.machine;
-    machine
-        .records
+    let dues = due_records(n, m, boxes, transactions, records);
+    records
         .iter()
         .zip(dues.iter())
-        .take(machine.m as usize)
+        .take(m as usize)
         .all(|(record, due)| parts::same_record(*record, *due))
 }

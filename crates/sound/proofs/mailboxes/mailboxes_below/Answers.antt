@@ -1,7 +1,6 @@
 -- `sound::mailboxes::mailboxes_below` meets its contract: it asks of the mailbox of each guest what the definition does.
 use Rattle.std.proofs.Common.{rules, arith, length, ltb, ◌≡◌}
 use Rattle.model.specs.Constants.{GUESTS}
-use Rattle.sound.proofs.Whole.{few_guests}
 use Rattle.std.specs.Prelude.{ℕ, Bool}
 use borrow.Author.Tests.{tests}
 use Rattle.parts.proofs.Loops.{all_taken}
@@ -17,5 +16,5 @@ below m box = ltb box.tx.0 m and ltb box.rx.0 m
 pub returns : goal.returns
 unfolding mailboxes_below mailbox_at ◌and◌
 returns c =
-    let eight : length c.args.counted.now.machine.now.mailboxes ≡ GUESTS = search rules in
-    all_taken c.args.counted.now.machine.now.n (below c.args.counted.now.machine.now.m) _ c.args.counted.now.machine.now.mailboxes _ c.all.ensures.ran (cc) (cc) (λ x b q k. search (rules, tests)) (omega (arith, few_guests c.args.counted.now.machine.now c.args.counted.now.counts))
+    let eight : length c.args.boxes.now ≡ GUESTS = search rules in
+    all_taken c.args.n (below c.args.m) _ c.args.boxes.now _ c.all.ensures.ran (cc) (cc) (λ x b q k. search (rules, tests)) (omega arith)

@@ -6,4 +6,4 @@ use Rattle.sound.proofs.Marked.{alone}
 use Rattle.sound.proofs.mailboxes.mailboxes_differ.Given as goal
 
 abbrev pub invariant-loop-g : goal.invariant-loop-g
-invariant-loop-g l = (every l.g (alone l.ranged.machine.now.mailboxes) ≡ true) × (l.seen ≡ box_marks l.g l.ranged.machine.now.mailboxes)
+invariant-loop-g l = (every l.g (alone l.boxes) ≡ true) × (l.seen ≡ box_marks l.g l.boxes)

@@ -6,4 +6,4 @@ use Rattle.sound.proofs.Marked.{anew}
 use Rattle.sound.proofs.places.no_page_twice.Given as goal
 
 abbrev pub invariant-loop-t : goal.invariant-loop-t
-invariant-loop-t l = (every l.t-index (anew l.ranged.machine.now.transactions) ≡ true) × (l.seen ≡ held_marks l.t-index l.ranged.machine.now.transactions)
+invariant-loop-t l = (every l.t-index (anew l.transactions) ≡ true) × (l.seen ≡ held_marks l.t-index l.transactions)

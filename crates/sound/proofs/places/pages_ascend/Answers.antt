@@ -10,7 +10,6 @@ use Rattle.model.specs.State.{page_at, count_of, transaction_at}
 use Rattle.model.specs.Sound.{pages_ascend}
 use Rattle.parts.proofs.Loops.{all_listed}
 use Rattle.sound.proofs.Each.{few_listed}
-use Rattle.sound.proofs.Whole.{page_counts_known}
 use Rattle.sound.proofs.places.pages_ascend.Goals as goal
 
 abbrev ascend : Transaction → Bool
@@ -18,8 +17,8 @@ ascend t = ascending (count_of t) (λ i. (page_at t i).0)
 
 pub all-requires-clause-callable : goal.all-requires-clause-callable
 all-requires-clause-callable c =
-    serves_from_places (YieldsList-from_slice c.args.counted.now.machine.now.transactions (cc)) (λ x q k. search rules) (λ x k b at. let few = few_listed _ (page_counts_known c.args.counted.now.machine.now c.args.counted.now.counts) (search rules) x.now k b at in search rules)
+    serves_from_places (YieldsList-from_slice c.args.transactions.now (cc)) (λ x q k. search rules) (λ x k b at. let few = few_listed _ c.requires (search rules) x.now k b at in search rules)
 
 pub returns : goal.returns
 unfolding pages_ascend transaction_at
-returns c = all_listed ascend _ c.args.counted.now.machine.now.transactions _ c.all.ensures.ran (cc) (λ x b q k. search (rules, tests)) (search rules)
+returns c = all_listed ascend _ c.args.transactions.now _ c.all.ensures.ran (cc) (λ x b q k. search (rules, tests)) (search rules)

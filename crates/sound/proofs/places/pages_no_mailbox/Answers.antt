@@ -7,18 +7,13 @@ use Rattle.sound.specs.Marks.{marked}
 use Rattle.sound.proofs.Each.{all_pages}
 use Rattle.sound.proofs.Asked.{page_below, reached_listed}
 use Rattle.sound.proofs.Marked.{no_mailbox_fresh}
-use Rattle.sound.proofs.Whole.{few_guests, mailboxes_in_reach, page_counts_known, pages_in_reach}
 use Rattle.sound.proofs.places.pages_no_mailbox.Goals as goal
 
 pub all-requires-clause-callable : goal.all-requires-clause-callable
 all-requires-clause-callable c =
-    serves_from_places (YieldsList-from_slice c.args.ranged.now.machine.now.transactions (cc)) (λ x q k. search rules) (λ x k b at. let fits = reached_listed _ (page_counts_known c.args.ranged.now.machine.now c.args.ranged.now.counts) (pages_in_reach c.args.ranged.now.machine.now c.args.ranged.now.counts c.args.ranged.now.ranges) (search rules) x.now k b at in search rules)
+    serves_from_places (YieldsList-from_slice c.args.transactions.now (cc)) (λ x q k. search rules) (λ x k b at. let fits = reached_listed _ c.requires.2 c.requires.3 (search rules) x.now k b at in search rules)
 
 pub returns : goal.returns
 returns c =
     all_pages (λ p. not (marked c.box_marks-seen.result p)) _ c.all.ensures.ran (cc) (λ x b q k. search (rules, tests)) (search rules)
-    ∙ sym (no_mailbox_fresh _ _ _ (page_below _ _ (pages_in_reach c.args.ranged.now.machine.now c.args.ranged.now.counts c.args.ranged.now.ranges)) c.box_marks-seen.ensures)
-
-pub box_marks-seen-requires : goal.box_marks-seen-requires
-box_marks-seen-requires c =
-    (few_guests c.args.ranged.now.machine.now c.args.ranged.now.counts, mailboxes_in_reach c.args.ranged.now.machine.now c.args.ranged.now.counts c.args.ranged.now.ranges)
+    ∙ sym (no_mailbox_fresh _ _ _ (page_below _ _ c.requires.3) c.box_marks-seen.ensures)

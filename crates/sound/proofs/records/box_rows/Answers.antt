@@ -3,7 +3,6 @@ use Rattle.std.proofs.Common.{arith, refl, ◌∙◌}
 use Rattle.model.specs.State.{mailbox_at}
 use Rattle.sound.proofs.Asked.{mailbox_below}
 use Rattle.sound.proofs.Dues.{laid_more, laid_whole}
-use Rattle.sound.proofs.Whole.{few_guests, mailboxes_in_reach}
 use Rattle.sound.specs.Rows.{box_row, box_rows, laid}
 use Rattle.sound.proofs.records.box_rows.Goals as goal
 
@@ -11,16 +10,9 @@ pub loop-g-init : goal.loop-g-init
 unfolding box_rows laid
 loop-g-init c = refl
 
-pub bounds-machine-g : goal.bounds-machine-g
-bounds-machine-g c = omega (arith, few_guests c.args.ranged.now.machine.now c.args.ranged.now.counts)
-
-pub mailbox_row-requires : goal.mailbox_row-requires
-mailbox_row-requires c = omega (arith, few_guests c.args.ranged.now.machine.now c.args.ranged.now.counts)
-
 pub set_box-requires : goal.set_box-requires
 unfolding mailbox_at
-set_box-requires c =
-    (omega arith, mailbox_below _ _ _ (mailboxes_in_reach c.args.ranged.now.machine.now c.args.ranged.now.counts c.args.ranged.now.ranges) c.loop-g.g c.loop-g-test.true)
+set_box-requires c = (omega arith, mailbox_below _ _ _ c.requires.1 c.loop-g.g c.loop-g-test.true)
 
 pub loop-g-preserved : goal.loop-g-preserved
 unfolding box_rows box_row mailbox_at

@@ -4,4 +4,4 @@ use Rattle.sound.specs.Rows.{box_rows}
 use Rattle.sound.proofs.records.box_rows.Given as goal
 
 abbrev pub invariant-loop-g : goal.invariant-loop-g
-invariant-loop-g l = l.all ≡ box_rows l.g l.ranged.machine.now.mailboxes l.initial.all
+invariant-loop-g l = l.all ≡ box_rows l.g l.boxes l.initial.all

@@ -12,12 +12,12 @@ use Rattle.sound.proofs.records.records_due.Goals as goal
 pub returns : goal.returns
 unfolding record_at
 returns c =
-    let records = c.args.ranged.now.machine.now.records in
+    let records = c.args.records.now in
     let dues = c.due_records-dues.result in
     let sixty_four : length records ≡ PAGES = search rules in
     let as_many : length dues ≡ PAGES = search rules in
     all_from_yields_List same c.all.new.self _ _ c.all.ensures.ran
-    (YieldsList-from_take c.args.ranged.now.machine.now.m (YieldsList-from_zip (YieldsList-from_slice records (cc)) (YieldsList-from_slice dues (cc))) (cc))
+    (YieldsList-from_take c.args.m (YieldsList-from_zip (YieldsList-from_slice records (cc)) (YieldsList-from_slice dues (cc))) (cc))
     (λ x b q k. search (rules, tests))
-    ∙ every_taken_zip _ _ same records dues c.args.ranged.now.machine.now.m (omega (arith, c.requires.sixty_four_pages)) (omega arith)
+    ∙ every_taken_zip _ _ same records dues c.args.m (omega (arith, c.requires.sixty_four_pages)) (omega arith)
     ∙ all_as_laid _ _ _ _ _ _ c.due_records-dues.ensures
