@@ -54,6 +54,17 @@ every_stops f h p = cannot_pass (λ e. not_both (every_at _ f e _ h) p)
 pub every_whole : {i n : ℕ} (f : ℕ → Bool) → i ≤ n → n ≤ i → every i f ≡ true → every n f ≡ true
 every_whole f h l e = rw (le_antisymm l h) e
 
+-- the same of a loop that asks a function, whose answer r is the test of i, and stops at `if !f(..)`
+
+pub asked_stops : {i n : ℕ} {r : Bool} (f : ℕ → Bool) → i < n → r ≡ f i → r ≡ false → false ≡ every n f
+asked_stops f b asked e = sym (every_stops f b (sym asked ∙ e))
+
+pub asked_more : (i : ℕ) {r : Bool} (f : ℕ → Bool) → every i f ≡ true → r ≡ f i → r ≡ true → every (i + 1) f ≡ true
+asked_more i f passed asked e = every_more i f passed (sym asked ∙ e)
+
+pub asked_whole : {i n : ℕ} (f : ℕ → Bool) → (i ≤ n) × (every i f ≡ true) → n ≤ i → true ≡ every n f
+asked_whole f inv end = sym (every_whole f inv.0 end inv.1)
+
 -- Values set at n places: it begins, it goes on past i, it has come to the end.
 
 pub set_none : {A : Type 0} (place : ℕ → ℕ) (value : ℕ → A) (l : List A) → l ≡ set_each 0 place value l
