@@ -1,5 +1,7 @@
 -- `parts::pages::set_held` meets its contract: what the loop keeps from turn to turn is what the definition says.
-use Rattle.std.proofs.Common.{arith, rules, get_or, ◌<◌, ◌≡◌}
+use Rattle.std.proofs.Common.{arith, rules, get_or, ap, ◌<◌, ◌≡◌, ◌∙◌}
+use lib.ListN.{set}
+use Rattle.model.specs.declared.PageId.{PageId}
 use Rattle.model.specs.Constants.{PAGES}
 use Rattle.model.specs.State.{page, count_of}
 use Rattle.parts.proofs.Loops.{set_more, set_none}
@@ -11,8 +13,8 @@ loop-page-init g c = set_none _ _ _
 
 pub loop-page-preserved : goal.loop-page-preserved
 loop-page-preserved g c =
-    rw (held_at c.args.t.now c.loop-page.page-index c.held-page-items.ensures c.loop-page-test.true)
-    (set_more _ _ _ _ c.loop-page.invariant)
+    ap (λ (p : PageId). set c.loop-page.all p.0 c.args.value) (held_at c.args.t.now c.loop-page.page-index c.held-page-items.ensures c.loop-page-test.true)
+    ∙ set_more _ _ _ _ c.loop-page.invariant
 
 pub returns : goal.returns
 returns g c =
