@@ -1,8 +1,14 @@
--- What Send's tests come to, where R1 names a guest.
-use Prim.Native.Nat.{ℕ, ◌≤◌}
+-- What the proofs of a message share: the page that is lent to the copier, and what Send's tests come to, where R1 names a
+-- guest.
+use Prim.Native.Nat.{ℕ, ◌+◌, ◌≤◌}
 use mathlib.Core.Path.{◌≡◌, refl}
 use mathlib.Core.Bool.{Bool, true, false, not}
+use mathlib.Core.List.{List, ◌++◌, append_assoc}
+use native.Mathlib.Omega.{arith}
 use lib.Dec.{leb}
+use lib.ListN.{length, take, drop, length-drop, take-append-drop}
+use lib.Seq.{length-take-le, drop-append-le, drop-drop}
+use borrow.Rule.Slice.PartMut.{put_mid}
 use borrow.Author.Tests.{le-leb}
 use Rattle.std.specs.Prelude.{Option, None, Some, is_some}
 use Rattle.isa.specs.Tests.{◌and◌}
@@ -15,6 +21,19 @@ use Rattle.model.specs.Reply.{passes, refused, need, is_other}
 use Rattle.model.specs.Send.{send_to, send_length, send_verdict}
 use Rattle.parts.specs.Numbers.{vm_of}
 use Rattle.parts.proofs.Named.{vm_found}
+
+-- a page that is lent from the middle of memory, and comes back with new words over its first ones
+pub page_back : (mem new : List ℕ) (base k : ℕ) → length new ≤ k → base + k ≤ length mem
+    → put_mid base k mem (new ++ drop (length new) (take k (drop base mem))) ≡ take base mem ++ new ++ drop (base + length new) mem
+page_back mem new base k h b =
+    let page : length (take k (drop base mem)) ≡ k = length-take-le k (drop base mem) (omega (arith, length-drop base mem)) in
+    rw (
+      append_assoc new,
+      ← drop-append-le (length new) (take k (drop base mem)) (drop k (drop base mem)) (omega arith),
+      take-append-drop,
+      drop-drop,
+      append_assoc,
+    )
 
 not_empty : (inbox : Option Message) → is_empty inbox ≡ not (is_some inbox)
 unfolding is_empty

@@ -1,25 +1,13 @@
 -- `control::send::copied` meets its contract: the words that the copier takes stand at the front of its array, and the page that
 -- is lent to it comes back with them over its first ones.
-use Rattle.std.proofs.Common.{arith, ◌≡◌, ℕ, ◌+◌, ◌≤◌, List, ◌++◌, append_assoc, length, length-drop, take, drop}
+use Rattle.std.proofs.Common.{arith, ◌≡◌, ℕ, ◌+◌, ◌≤◌, List, ◌++◌, length, length-drop, take, drop}
 use Rattle.std.proofs.Math.Seq.{paste}
-use Rattle.std.proofs.lemmas.List.{drop-append-le, drop-drop, length-take-le, take-append-drop}
+use Rattle.std.proofs.lemmas.List.{length-take-le}
 use borrow.Rule.Slice.PartMut.{put_mid}
 use Rattle.model.specs.Constants.{PAGE}
 use Rattle.model.specs.Memory.{base_of}
+use Rattle.control.proofs.Message.{page_back}
 use Rattle.control.proofs.send.copied.Goals as goal
-
--- a page that is lent from the middle of memory, and comes back with new words over its first ones
-page_back : (mem new : List ℕ) (base k : ℕ) → length new ≤ k → base + k ≤ length mem
-    → put_mid base k mem (new ++ drop (length new) (take k (drop base mem))) ≡ take base mem ++ new ++ drop (base + length new) mem
-page_back mem new base k h b =
-    let page : length (take k (drop base mem)) ≡ k = length-take-le k (drop base mem) (omega (arith, length-drop base mem)) in
-    rw (
-      append_assoc new,
-      ← drop-append-le (length new) (take k (drop base mem)) (drop k (drop base mem)) (omega arith),
-      take-append-drop,
-      drop-drop,
-      append_assoc,
-    )
 
 words_sent : (mem sent : List ℕ) (from base n taken page : ℕ) → taken ≡ n → page ≡ PAGE
     → n ≤ PAGE → from + PAGE ≤ length mem → base + PAGE ≤ length mem
