@@ -25,7 +25,7 @@ abbrev pub Avoids : {A : Type 0} → ℕ → List (Choice A) → Type 0
 Avoids w [] = Unit
 Avoids w (c ∷ rest) = (w ≡ c.number → ⊥) × Avoids w rest
 
-chosen_none : {A : Type 0} (list : List (Choice A)) (otherwise : A) (w : ℕ) → Avoids w list → chosen list otherwise w ≡ otherwise
+pub chosen_none : {A : Type 0} (list : List (Choice A)) (otherwise : A) (w : ℕ) → Avoids w list → chosen list otherwise w ≡ otherwise
 unfolding chosen side
 chosen_none [] otherwise w none = refl
 chosen_none (c ∷ rest) otherwise w none =

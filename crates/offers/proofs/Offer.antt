@@ -67,7 +67,7 @@ module _ (kind : Kind) (m : Machine) (length : ℕ) (tx : List ℕ) where
   unfolding well_formed is_other
   good_receiver e = ltb-true _ _ (and_left _ _ (and_left _ _ (and_right _ _ e)))
 
-  good_bases : well_formed kind m length tx ≡ true → every (length - 2) (λ i. is_base m.m (base_in tx i)) ≡ true
+  pub good_bases : well_formed kind m length tx ≡ true → every (length - 2) (λ i. is_base m.m (base_in tx i)) ≡ true
   unfolding well_formed
   good_bases e = and_left _ _ (and_right _ _ (and_right _ _ e))
 
@@ -96,7 +96,7 @@ module _ (m : Machine) (memory : List ℕ) (box : Mailbox) (own : box ≡ mailbo
 
 -- The tests.
 
-unfoldable own_pages : Machine → ℕ → List ℕ → Bool
+unfoldable pub own_pages : Machine → ℕ → List ℕ → Bool
 own_pages m length tx = every (length - 2) (λ i. may_be_sent m (page_of (base_in tx i)))
 
 -- five tests with one code are one test
@@ -128,7 +128,7 @@ module _ (kind : Kind) (m : Machine) (memory : List ℕ) {words : ℕ} (first : 
 -- What is known where the descriptor is a good one.
 
 module _ (kind : Kind) (m : Machine) (p : Proposal) (words : ℕ) (tx : List ℕ) (few : words - 2 ≤ PLACES) (read : Read words tx p) where
-  reached : sound m ≡ true → well_formed kind m words tx ≡ true → (i : ℕ) → i < p.count → (get_or p.pages i (page 0)).0 < PAGES
+  pub reached : sound m ≡ true → well_formed kind m words tx ≡ true → (i : ℕ) → i < p.count → (get_or p.pages i (page 0)).0 < PAGES
   unfolding is_base
   reached s good i b =
       let most = (sound_holds m s).counts_in_range.sixty_four_pages in
@@ -138,7 +138,7 @@ module _ (kind : Kind) (m : Machine) (p : Proposal) (words : ℕ) (tx : List ℕ
       in
       rw (read.pages, listed_page (words - 2) tx i b' few) (omega arith)
 
-  own_listed : {due : PageRecord} → due ≡ owned_row m.current → length p.pages ≡ PLACES
+  pub own_listed : {due : PageRecord} → due ≡ owned_row m.current → length p.pages ≡ PLACES
       → list_all (λ q. same_record (record_at m.records q) due) (take p.count p.pages) ≡ own_pages m words tx
   unfolding own_pages may_be_sent
   own_listed {due} row whole =
