@@ -5,7 +5,7 @@ ghost use Rattle.model.specs.Constants.{GUESTS, PAGES};
 ghost use Rattle.image.specs.Drafts.{Ranged, begun, unused, describable, ownable, inside, complete, fits, is_counts, may_stand, with_counts, with_guest, with_owner, with_budget, taken};
 
 use crate::{Content, Draft};
-use model::{Machine, Mailbox, Mode, PageId, VmId, VmSet};
+use model::{Mailbox, Mode, PageId, VmId, VmSet};
 
 // Kind 4: so many words from an address on lie inside the memory of m pages.
 #[tactic(auto, unfolding(crate::specs::Drafts::inside))]
@@ -109,66 +109,51 @@ impl Draft {
 
     // The numbers of guests and pages.
     #[tactic(auto, unfolding(crate::specs::Drafts::with_counts))]
-    fn with_counts(self, n: u8, m: u8) -> Draft
-        ensures { result ≡ with_counts self n m }
+    fn with_counts(&mut self, n: u8, m: u8)
+        ensures { self.new ≡ with_counts self.old n m }
     {
-        Draft {
-            machine: Machine {
-                n,
-                m,
-                ..self.machine
-            },
-            ..self
-        }
+        self.machine.n = n;
+        self.machine.m = m;
     }
 
     // A guest: where it starts, its mailboxes, and the records of their pages.
     #[tactic(auto, unfolding(model::specs::State::registers_at, crate::specs::Drafts::with_guest))]
-    fn with_guest(self, g: VmId, tx: PageId, rx: PageId, pc: u32) -> Draft
+    fn with_guest(&mut self, g: VmId, tx: PageId, rx: PageId, pc: u32)
         requires { (g.0 < GUESTS) × (tx.0 < PAGES) × (rx.0 < PAGES) }
-        ensures { result ≡ with_guest self g tx rx pc }
+        ensures { self.new ≡ with_guest self.old g tx rx pc }
     {
-        let mut machine = self.machine;
         let i = g.0 as usize;
-        machine.registers[i].pc = pc;
-        machine.mailboxes[i] = Mailbox { tx, rx };
+        self.machine.registers[i].pc = pc;
+        self.machine.mailboxes[i] = Mailbox { tx, rx };
         let row = parts::mailbox_row(g);
-        machine.records[tx.0 as usize] = row;
-        machine.records[rx.0 as usize] = row;
-        Draft {
-            machine,
-            described: parts::with(g, self.described),
-            ..self
-        }
+        self.machine.records[tx.0 as usize] = row;
+        self.machine.records[rx.0 as usize] = row;
+        self.described = parts::with(g, self.described);
     }
 
     // A page's owner.
     #[tactic(auto, unfolding(crate::specs::Drafts::with_owner))]
-    fn with_owner(self, page: PageId, g: VmId) -> Draft
+    fn with_owner(&mut self, page: PageId, g: VmId)
         requires { (page.0 < PAGES) × (g.0 < GUESTS) }
-        ensures { result ≡ with_owner self page g }
+        ensures { self.new ≡ with_owner self.old page g }
     {
-        let mut machine = self.machine;
-        machine.records[page.0 as usize] = parts::owned_row(g);
-        Draft { machine, ..self }
+        self.machine.records[page.0 as usize] = parts::owned_row(g);
     }
 
     // The budget, and that nothing may follow.
     #[tactic(auto, unfolding(crate::specs::Drafts::with_budget))]
-    fn with_budget(self, steps: u32) -> Draft
-        ensures { result ≡ with_budget self steps }
+    fn with_budget(&mut self, steps: u32)
+        ensures { self.new ≡ with_budget self.old steps }
     {
-        Draft {
-            budget: Some(steps),
-            ..self
-        }
+        self.budget = Some(steps);
     }
 
-    // By its kind; words are for the memory, and add nothing here.
+    // By its kind; words are for the memory, and add nothing here. The draft is changed where it stands, since a copy of
+    // its machine for each record costs more than reading the record.
     #[tactic(auto, unfolding(crate::specs::Drafts::fits, crate::specs::Drafts::taken, crate::specs::Drafts::describable, crate::specs::Drafts::ownable, crate::specs::Drafts::unused, model::specs::Sound::counts_in_range, isa::proofs::Tests::joined))]
-    pub fn taken(self, content: Content) -> Draft
-        requires { Ranged self × (fits self content ≡ true) }
-        ensures { result ≡ taken self content }
+    pub(crate) fn take(&mut self, content: Content)
+        requires { Ranged self.old × (fits self.old content ≡ true) }
+        ensures { self.new ≡ taken self.old content }
     {
         match content {
             Content::Counts { n, m } => self.with_counts(n as u8, m as u8),
@@ -178,8 +163,18 @@ impl Draft {
             Content::Owned { page, owner } => {
                 self.with_owner(PageId(page as u8), VmId(owner as u8))
             }
-            Content::Words { .. } => self,
+            Content::Words { .. } => {}
             Content::Budget { steps } => self.with_budget(steps),
         }
+    }
+
+    // The same, given back.
+    pub fn taken(self, content: Content) -> Draft
+        requires { Ranged self × (fits self content ≡ true) }
+        ensures { result ≡ taken self content }
+    {
+        let mut draft = self;
+        draft.take(content);
+        draft
     }
 }

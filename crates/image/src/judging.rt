@@ -30,7 +30,7 @@ pub fn judge(bytes: &[u8]) -> Result<Image, Broken>
         if !draft.may_stand(at, content) {
             return Err(bad);
         }
-        draft = draft.taken(content);
+        draft.take(content);
         at = whole.payload + whole.size;
     }
     at_end(at, draft)

@@ -37,8 +37,8 @@ returns-then-not-may_stand c =
     c.may_stand.ensures
     c.if-not-may_stand.true
 
-pub taken-draft-requires : goal.taken-draft-requires
-taken-draft-requires c = (
+pub take-requires : goal.take-requires
+take-requires c = (
   c.loop-at.invariant.ranged,
   may_stand_fits _ _ _ (sym c.may_stand.ensures ∙ c.if-not-may_stand.false),
 )
