@@ -44,6 +44,7 @@ use Rattle.image.specs.declared.Content.TheVariants.{Counts, Described, Owned, W
 use Rattle.image.specs.declared.Draft.{Draft}
 use Rattle.image.specs.declared.Image.{Image}
 use Rattle.image.specs.Pieces.{image_kinds, end_of, cut}
+use Rattle.image.specs.Contents.{content_of}
 use Rattle.image.specs.Drafts.{begun, unused, describable, ownable, complete, fits, is_counts, may_stand, with_pc, with_counts, with_guest, with_owner, with_budget, taken}
 use Rattle.image.specs.Judging.{Judged, Turn, stops, goes_on, broken, good, ended_with, at_end, heard, tried, turn, follow, judged_from, judged_of}
 
@@ -54,7 +55,7 @@ pub record Way (bytes : List ℕ) (Along : ℕ → Draft → Type 0) (Told : Jud
   pub breaks : (at : ℕ) (d : Draft) → Along at d → Told (broken at)
   pub goes :
       (at : ℕ) (d : Draft) (r : Record) (content : Content) → Along at d → cut image_kinds bytes at ≡ Some r
-      → may_stand at d content ≡ true → Along (end_of r) (taken d content)
+      → content_of bytes r ≡ Some content → may_stand at d content ≡ true → Along (end_of r) (taken d content)
 
 module _ (bytes : List ℕ) (Along : ℕ → Draft → Type 0) (Told : Judged → Type 0) (way : Way bytes Along Told) where
   -- what has to hold after one look
@@ -62,22 +63,22 @@ module _ (bytes : List ℕ) (Along : ℕ → Draft → Type 0) (Told : Judged �
   After t = elim t [ stops judged ↦ Told judged | goes_on at d ↦ Along at d ]
 
   after_content : (at : ℕ) (d : Draft) (r : Record) (content : Content) → Along at d → cut image_kinds bytes at ≡ Some r
-      → (stands : Bool) → may_stand at d content ≡ stands
+      → content_of bytes r ≡ Some content → (stands : Bool) → may_stand at d content ≡ stands
       → After (cond stands (goes_on (end_of r) (taken d content)) (stops (broken at)))
-  after_content at d r content along here true e = way.goes at d r content along here e
-  after_content at d r content along here false e = way.breaks at d along
+  after_content at d r content along here says true e = way.goes at d r content along here says e
+  after_content at d r content along here says false e = way.breaks at d along
 
   after_record : (at : ℕ) (d : Draft) (r : Record) (said : Option Content) → Along at d → cut image_kinds bytes at ≡ Some r
-      → After (heard at d (end_of r) said)
+      → content_of bytes r ≡ said → After (heard at d (end_of r) said)
   unfolding heard
-  after_record at d r None along here = way.breaks at d along
-  after_record at d r (Some content) along here = after_content at d r content along here _ refl
+  after_record at d r None along here says = way.breaks at d along
+  after_record at d r (Some content) along here says = after_content at d r content along here says _ refl
 
   after_piece : (at : ℕ) (d : Draft) (piece : Option Record) → Along at d → cut image_kinds bytes at ≡ piece
       → After (tried bytes at d piece)
   unfolding tried
   after_piece at d None along here = way.breaks at d along
-  after_piece at d (Some r) along here = after_record at d r _ along here
+  after_piece at d (Some r) along here = after_record at d r _ along here refl
 
   after_turn : (at : ℕ) (d : Draft) (last : Bool) → Along at d
       → After (cond last (stops (at_end at d)) (tried bytes at d (cut image_kinds bytes at)))
@@ -531,6 +532,6 @@ judged_built bytes =
     (record {
       ends = λ at d c. end_built at d c _ refl;
       breaks = λ at d c. not_built at;
-      goes = λ at d r content c here stands. drafted_next at (end_of r) d content c (ends_further bytes at r here) stands;
+      goes = λ at d r content c here says stands. drafted_next at (end_of r) d content c (ends_further bytes at r here) stands;
     })
     (length bytes) 0 begun (before refl refl)

@@ -121,7 +121,7 @@ bad_offset_inside bytes =
     (record {
       ends = λ at d inside. end_inside bytes at d.machine d.budget inside;
       breaks = λ at d inside. break_inside bytes at inside;
-      goes = λ at d r content inside here stands. (cut_whole image_kinds bytes at here).1;
+      goes = λ at d r content inside here says stands. (cut_whole image_kinds bytes at here).1;
     })
     (length bytes) 0 begun (omega arith)
 
