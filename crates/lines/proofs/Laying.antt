@@ -39,7 +39,7 @@ module _ (out : List ℕ) (at : ℕ) where
         ap (λ k. drop k out) same
 
     -- a text laid behind another: both are laid
-    laid_two : laid_text (laid_text out at t) (at + length t) u ≡ laid_text out at (t ++ u)
+    pub laid_two : laid_text (laid_text out at t) (at + length t) u ≡ laid_text out at (t ++ u)
     unfolding laid_text
     laid_two =
         let front : length (take at out ++ t) ≡ at + length t = front_length t (omega arith) in
@@ -77,7 +77,7 @@ laying {after = after} {behind = behind} e n w k =
     record { laid = e; next = n; kept = k; within = w; counts = sym (length-take-le behind after w) }
 
 -- what was laid behind a text, together with it
-laid_then : {a b c : List ℕ} {at r s : ℕ} {t u : List ℕ} → Laid a at t b r → Laid b r u c s → Laid a at (t ++ u) c s
+pub laid_then : {a b c : List ℕ} {at r s : ℕ} {t u : List ℕ} → Laid a at t b r → Laid b r u c s → Laid a at (t ++ u) c s
 laid_then {a} {b} {c} {at} {r} {s} {t} {u} one two =
     let end : s ≡ at + length t + length u = rw (← one.next) two.next in
     let fits : at + length t + length u ≤ length a = omega (arith, one.kept, two.kept, two.within) in
