@@ -1,10 +1,17 @@
 // The words of an image that was judged good, laid into the memory. Words that lie outside would be passed over; a good image
 // has none.
 
-ghost use Rattle.std.specs.Prelude.{◌≡◌, ◌+◌, ◌*◌, ◌≤◌, length};
+ghost use Rattle.std.specs.Prelude.{◌≡◌, ◌+◌, ◌*◌, ◌≤◌, length, replicate};
 ghost use Rattle.image.specs.Laying.{words_laid, record_laid, memory_of};
 
 use crate::{Content, Record, bytes, contents, pieces};
+
+// Every word becomes 0.
+fn clear(mem: &mut [u32])
+    ensures { mem.new ≡ replicate (length mem.old) 0 }
+{
+    mem.fill(0);
+}
 
 // So many words that stand in the bytes from an offset on, from an address on.
 #[tactic(auto, unfolding(crate::specs::Laying::words_laid, model::specs::Tests::set_each))]
@@ -37,7 +44,7 @@ fn lay_record(bytes: &[u8], whole: Record, mem: &mut [u32])
 pub fn lay(bytes: &[u8], mem: &mut [u32])
     ensures { mem.new ≡ memory_of bytes.now (length mem.old) }
 {
-    mem.fill(0);
+    clear(&mut *mem);
     let mut at: usize = 0;
     while let Some(whole) = pieces::cut_image(bytes, at) {
         lay_record(bytes, whole, &mut *mem);
