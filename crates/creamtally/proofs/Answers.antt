@@ -72,6 +72,14 @@ pub mode_normal : (answer : Answer) (mode : Mode) → is_done answer ≡ true �
 unfolding then_mode
 mode_normal answer mode e n = rw (e, n)
 
+-- of a normal mode the answer is the check's own, 0 too
+pub mode_kept : (answer : Answer) {due : Answer} (mode : Mode) → answer ≡ due → is_normal mode ≡ true → due ≡ then_mode answer mode
+mode_kept answer mode told n = sym told ∙ go (is_done answer) refl
+  where
+    go : (done : Bool) → is_done answer ≡ done → answer ≡ then_mode answer mode
+    go true d = is_done_lem answer d ∙ mode_normal answer mode d n
+    go false d = mode_unasked answer mode d
+
 pub mode_stopped : (answer : Answer) (mode : Mode) → is_done answer ≡ true → is_normal mode ≡ false → Stopped ≡ then_mode answer mode
 unfolding then_mode
 mode_stopped answer mode e n = rw (e, n)

@@ -1,18 +1,19 @@
-use Rattle.std.proofs.Common.{sym, ◌∙◌}
-use Rattle.creamtally.proofs.Answers.{mode_normal, mode_stopped, mode_unasked, same_normal, told_done, told_refused}
+use Rattle.std.proofs.Common.{rules, sym, ◌∙◌}
+use Rattle.model.proofs.Entries.{is_done_lem}
+use Rattle.creamtally.proofs.Answers.{mode_kept, mode_stopped, mode_unasked, same_normal, told_done, told_refused}
 use Rattle.creamtally.proofs.modes.then_mode.Goals as goal
 
 pub returns-then-refused : goal.returns-then-refused
-returns-then-refused c = mode_unasked c.args.answer c.args.mode (told_refused _ c.ne-refused.ensures c.if-refused.true)
+returns-then-refused c = mode_unasked c.args.answer c.args.mode (search (rules, told_refused))
 
 pub returns-then-eq : goal.returns-then-eq
 returns-then-eq c =
-    mode_normal _ _
-    (told_done c.args.answer c.ne-refused.ensures c.if-refused.false)
+    mode_kept _ _
+    (search (rules, is_done_lem, told_done))
     (sym (same_normal c.args.mode) ∙ sym c.eq.ensures ∙ c.if-eq.true)
 
 pub returns : goal.returns
 returns c =
     mode_stopped _ _
-    (told_done c.args.answer c.ne-refused.ensures c.if-refused.false)
+    (search (rules, told_done))
     (sym (same_normal c.args.mode) ∙ sym c.eq.ensures ∙ c.if-eq.false)
