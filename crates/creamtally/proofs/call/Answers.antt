@@ -1,5 +1,5 @@
 -- `call`: what the check and the mode answer leads to each way out.
-use Rattle.std.proofs.Common.{List, ap, ℕ, ◌∙◌, ◌≡◌}
+use Rattle.std.proofs.Common.{List, ap, rules, ℕ, ◌∙◌, ◌≡◌}
 use Rattle.model.specs.Entries.{check_of, then_mode}
 use Rattle.model.specs.declared.Answer.{Answer}
 use Rattle.model.specs.declared.Machine.{Machine}
@@ -15,17 +15,17 @@ pub returns-then-refused : goal.returns-then-refused
 returns-then-refused c =
     call_refused _ _ _
     (answered _ _ c.check.ensures c.then_mode-answer.ensures)
-    (told_refused _ c.ne-refused.ensures c.if-refused.true)
+    (search (rules, told_refused))
 
 pub call-requires : goal.call-requires
 call-requires c =
     checked _ _ _
     (answered _ _ c.check.ensures c.then_mode-answer.ensures)
-    (told_done _ c.ne-refused.ensures c.if-refused.false)
+    (search (rules, told_done))
 
 pub returns : goal.returns
 returns c =
     call_done _ _ _
     (answered _ _ c.check.ensures c.then_mode-answer.ensures)
-    (told_done _ c.ne-refused.ensures c.if-refused.false)
+    (search (rules, told_done))
     _ c.call.ensures
