@@ -24,6 +24,8 @@ pub fn check(machine: Machine, mem: &[u32]) -> Answer
     if mem.len() != 1024 * (machine.m as usize) {
         return Answer::WrongMemory;
     }
+    // copied here: a caller whose memory does not fit copies nothing
+    let machine = machine;
     if !sound::is_sound(&machine) {
         return Answer::Unsound;
     }
