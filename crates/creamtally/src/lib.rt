@@ -24,7 +24,7 @@ pub fn check(machine: Machine, mem: &[u32]) -> Answer
     if mem.len() != 1024 * (machine.m as usize) {
         return Answer::WrongMemory;
     }
-    // copied here: a caller whose memory does not fit copies nothing
+    // Behind the first test, so that a machine whose memory does not fit is not copied.
     let machine = machine;
     if !sound::is_sound(&machine) {
         return Answer::Unsound;
